@@ -1,0 +1,26 @@
+-- The bytes are a run in what is left of the script.
+use mathlib.Core.Path.{ap, _∙_}
+use native.Mathlib.Omega.{arith}
+use borrow.Author.Needs.{needs}
+use Rattle.rules.specs.Text.{run as run-of}
+use Rattle.rules.proofs.Text.{run-inside}
+use Rattle.lex.specs.Class.{has}
+use Rattle.lex.specs.Contract.{taken}
+use Rattle.lex.proofs.Lexes.{run-read, run-none}
+use Rattle.lex.proofs.Cursor.take_while.Statement.{statement}
+use Rattle.lex.proofs.Cursor.take_while.Tie as tie
+
+returns : tie.Need-returns
+returns c = run-none _ (c .before .run .ensures ∙ ap (run-of _) (c .before .before .rest .ensures)) (c .if1 .taken)
+
+past-requires : tie.Need-past-requires
+past-requires c κs =
+    let start = c .before .before .before .before in
+    omega (arith, run-inside (has (start .args .class)) (start .args .script .now) (start .args .self .at), c .before .run .ensures ∙ ap (run-of _) (c .before .before .rest .ensures))
+
+returns-2 : tie.Need-returns-2
+returns-2 c =
+    run-read _ (c .before .before .run .ensures ∙ ap (run-of _) (c .before .before .before .rest .ensures)) (c .before .if1 .left) (c .past .ensures)
+
+pub take-while-spec : {M : Type 1} → statement M
+take-while-spec = tie.close (tie.spec (λ c κs. search needs) (λ c κs. search needs) returns past-requires returns-2)

@@ -1,0 +1,5 @@
+-- What the proofs of several functions use.
+mod Or
+pub mod Lexes
+mod Skip
+mod Name

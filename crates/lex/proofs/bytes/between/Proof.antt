@@ -1,0 +1,14 @@
+-- Each `return` is one of the two tests.
+use borrow.Author.Tests.{le-leb, lt-leb}
+use Rattle.lex.specs.Contract.{taken}
+use Rattle.lex.proofs.bytes.between.Statement.{statement}
+use Rattle.lex.proofs.bytes.between.Tie as tie
+
+returns : tie.Need-returns
+returns c = rw (lt-leb (c .before .args .least) (c .before .args .b) (c .if1 .taken))
+
+returns-2 : tie.Need-returns-2
+returns-2 c = rw (le-leb (c .before .args .least) (c .before .args .b) (c .if1 .left))
+
+pub between-spec : {M : Type 1} → statement M
+between-spec = tie.close (tie.spec returns returns-2)

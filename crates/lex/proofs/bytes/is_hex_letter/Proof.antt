@@ -1,0 +1,15 @@
+-- One test after the other.
+use borrow.Author.Needs.{needs}
+use Rattle.lex.proofs.Or.{or-first, or-second}
+use Rattle.lex.specs.Contract.{taken}
+use Rattle.lex.proofs.bytes.is_hex_letter.Statement.{statement}
+use Rattle.lex.proofs.bytes.is_hex_letter.Tie as tie
+
+returns : tie.Need-returns
+returns c = or-first _ (c .before .between .ensures) (c .if1 .taken)
+
+returns-2 : tie.Need-returns-2
+returns-2 c = or-second (c .before .before .between .ensures) (c .before .if1 .left) (c .between2 .ensures)
+
+pub is-hex-letter-spec : {M : Type 1} → statement M
+is-hex-letter-spec = tie.close (tie.spec (λ c κs. search needs) returns (λ c κs. search needs) returns-2)

@@ -1,0 +1,6 @@
+-- Laws of the rule language and of the rules, for the crates above.
+pub mod Text
+pub mod Rule
+pub mod Pays
+pub mod Bytes
+pub mod Numbers

@@ -1,0 +1,125 @@
+-- Laws of lists of bytes, by induction on the list: what is found in a list lies within it, and what a question answers from one place on
+-- follows from the byte there and what it answers from the next.
+use mathlib.Core.Path.{_≡_, refl, sym, ap, _∙_}
+use Prim.Native.Nat.{ℕ, zero, suc, _+_, _-_, _≤_, _<_, max}
+use native.Mathlib.Omega.{arith}
+use native.Mathlib.Numerals.{add-one}
+use borrow.Author.Tests.{eq-eqb, ne-eqb}
+use mathlib.Core.List.{List, [], _∷_}
+use mathlib.Core.Bool.{Bool, true, false, cond, not, false≢true, true≢false}
+use mathlib.Core.Option.{Option, none, some, Option·map}
+use lib.Dec.{eqb, ltb}
+use lib.ListN.{length, drop, getD, length-drop, drop-of-length-le}
+use lib.Seq.{drop-cons}
+use Rattle.rules.specs.Text.{among, begins, run, find}
+
+-- ONE OF THE BYTES OF A LIST, from its place i on
+module _ (l : List ℕ) (b i : ℕ) where
+  pub among-end : length l ≤ i → among (drop i l) b ≡ false
+  unfolding among
+  among-end h = rw (drop-of-length-le l h)
+
+  pub among-here : i < length l → getD l i 0 ≡ b → among (drop i l) b ≡ true
+  unfolding among
+  among-here h e = rw (drop-cons l i 0 h, eq-eqb b (getD l i 0) (sym e))
+
+  pub among-on : i < length l → (getD l i 0 ≡ b → ⊥) → among (drop i l) b ≡ among (drop (i + 1) l) b
+  unfolding among
+  among-on h n = rw (add-one i, drop-cons l i 0 h, ne-eqb b (getD l i 0) (λ e. n (sym e)))
+
+-- WHAT A LIST BEGINS WITH
+pub begins-within : (w l : List ℕ) → begins w l ≡ true → length w ≤ length l
+unfolding begins
+begins-within [] l e = omega arith
+begins-within (a ∷ w) [] e = absurd (false≢true e)
+begins-within (a ∷ w) (b ∷ l) e = go (eqb b a) (begins-within w l) e
+  where
+    go : (t : Bool) → (begins w l ≡ true → length w ≤ length l) → cond t (begins w l) false ≡ true → length (a ∷ w) ≤ length (b ∷ l)
+    go true ih q = omega (arith, ih q)
+    go false ih q = absurd (false≢true q)
+
+module _ (w l : List ℕ) (i : ℕ) where
+  pub begins-done : length w ≤ i → begins (drop i w) (drop i l) ≡ true
+  unfolding begins
+  begins-done h = rw (drop-of-length-le w h)
+
+  module _ (h : i < length w) where
+    pub begins-short : length l ≤ i → begins (drop i w) (drop i l) ≡ false
+    unfolding begins
+    begins-short k = rw (drop-cons w i 0 h, drop-of-length-le l k)
+
+    module _ (k : i < length l) where
+      pub begins-not : (getD l i 0 ≡ getD w i 0 → ⊥) → begins (drop i w) (drop i l) ≡ false
+      unfolding begins
+      begins-not n = rw (drop-cons w i 0 h, drop-cons l i 0 k, ne-eqb _ _ n)
+
+      pub begins-on : getD l i 0 ≡ getD w i 0 → begins (drop i w) (drop i l) ≡ begins (drop (i + 1) w) (drop (i + 1) l)
+      unfolding begins
+      begins-on e = rw (add-one i, drop-cons w i 0 h, drop-cons l i 0 k, eq-eqb _ _ e)
+
+pub begins-inside : (w s : List ℕ) (p : ℕ) → begins w (drop p s) ≡ true → p + length w ≤ max p (length s)
+begins-inside w s p e = omega (arith, begins-within w (drop p s) e, length-drop p s)
+
+-- RUNS
+pub run-within : (t : ℕ → Bool) (l : List ℕ) → run t l ≤ length l
+unfolding run
+run-within t [] = omega arith
+run-within t (b ∷ l) = elim (t b) as (λ x. cond x (suc (run t l)) 0 ≤ length (b ∷ l)) [ true ↦ omega (arith, run-within t l) | false ↦ omega arith ]
+
+module _ (t : ℕ → Bool) (s : List ℕ) (p : ℕ) where
+  pub run-inside : p + run t (drop p s) ≤ max p (length s)
+  run-inside = omega (arith, run-within t (drop p s), length-drop p s)
+
+  pub run-end : length s ≤ p → run t (drop p s) ≡ 0
+  unfolding run
+  run-end h = rw (drop-of-length-le s h)
+
+  pub run-stop : p < length s → t (getD s p 0) ≡ false → run t (drop p s) ≡ 0
+  unfolding run
+  run-stop h e = rw (drop-cons s p 0 h, e)
+
+  pub run-on : p < length s → t (getD s p 0) ≡ true → run t (drop p s) ≡ suc (run t (drop (p + 1) s))
+  unfolding run
+  run-on h e = rw (add-one p, drop-cons s p 0 h, e)
+
+-- WHAT IS FOUND
+mapped : (o : Option ℕ) (n : ℕ) → Option·map suc o ≡ some n → (m : ℕ) × (o ≡ some m) × (n ≡ suc m)
+mapped none n e = absurd (let z : _≡_ {A = ℕ} 0 1 = cc in omega arith)
+mapped (some m) n e = (m, refl, cc)
+
+pub find-within : (w l : List ℕ) (n : ℕ) → find w l ≡ some n → n + length w ≤ length l
+unfolding find
+find-within w [] n e = absurd (let z : _≡_ {A = ℕ} 0 1 = cc in omega arith)
+find-within w (b ∷ l) n e = go (begins w (b ∷ l)) refl (find-within w l) e
+  where
+    go : (t : Bool) → begins w (b ∷ l) ≡ t → ((m : ℕ) → find w l ≡ some m → m + length w ≤ length l) → cond t (some 0) (Option·map suc (find w l)) ≡ some n → n + length w ≤ length (b ∷ l)
+    go true q ih x = let z : 0 ≡ n = cc in omega (arith, begins-within w (b ∷ l) q)
+    go false q ih x = let m = mapped (find w l) n x in omega (arith, ih (m .0) (m .1), m .2)
+
+pub find-inside : (w s : List ℕ) (p n : ℕ) → find w (drop p s) ≡ some n → p + n + length w ≤ max p (length s)
+find-inside w s p n e = omega (arith, find-within w (drop p s) n e, length-drop p s)
+
+module _ (w s : List ℕ) (p : ℕ) where
+  pub find-end : length s ≤ p → find w (drop p s) ≡ none
+  unfolding find
+  find-end h = rw (drop-of-length-le s h)
+
+  pub find-here : p < length s → begins w (drop p s) ≡ true → find w (drop p s) ≡ some 0
+  unfolding find
+  find-here h e = rw (drop-cons s p 0 h, ← drop-cons s p 0 h, e)
+
+  pub find-on : p < length s → begins w (drop p s) ≡ false → find w (drop p s) ≡ Option·map suc (find w (drop (p + 1) s))
+  unfolding find
+  find-on h e = rw (add-one p, drop-cons s p 0 h, ← drop-cons s p 0 h, e)
+
+-- counted on from n
+abbrev pub further : ℕ → Option ℕ → Option ℕ
+further n = Option·map (λ m. n + m)
+
+pub further-none : (o : Option ℕ) → further 0 o ≡ o
+further-none none = refl
+further-none (some m) = ap some (omega arith)
+
+pub further-on : (n : ℕ) (o : Option ℕ) → further n (Option·map suc o) ≡ further (n + 1) o
+further-on n none = refl
+further-on n (some m) = ap some (omega arith)

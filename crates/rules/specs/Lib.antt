@@ -1,0 +1,6 @@
+-- What a reader must believe: the language of the rules, and the rules, in the order of 000.
+pub mod Text
+pub mod Rule
+pub mod Bytes
+pub mod Keywords
+pub mod Numbers
