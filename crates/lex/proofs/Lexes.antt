@@ -77,6 +77,9 @@ module _ {s : List ℕ} {c : Cursor} where
   unfolding give
   given a = record { said = λ h. refl; moved = still s c }
 
+  pub given-as : {A : Type 0} {a b : A} → a ≡ b → Lexes (give a) s c (went b c)
+  given-as {a = a} e = subst (λ b. Lexes (give a) s c (went b c)) e (given a)
+
   pub refused : {A : Type 0} → Lexes {A = A} fails s c lost
   unfolding fails
   refused = record { said = λ h. refl; moved = tt }

@@ -3,3 +3,4 @@ mod Or
 pub mod Lexes
 mod Skip
 mod Name
+mod Amount

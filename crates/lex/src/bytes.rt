@@ -2,7 +2,7 @@
 ghost use mathlib.Core.Path.{_≡_};
 ghost use lib.ListN.{drop};
 ghost use mathlib.Core.Bool.{_||_};
-ghost use Rattle.rules.specs.Text.{among as one-of, begins as begins-with, run as run-of, find as find-in};
+ghost use Rattle.rules.specs.Text.{among as one-of, begins as begins-with, run as run-of, find as find-in, part-of, same as same-as};
 ghost use Rattle.rules.specs.Bytes.{between as is-between, is-digit, is-hex, is-letter, is-initial, is-identifier};
 ghost use Rattle.lex.specs.Class.{has, found};
 
@@ -37,7 +37,7 @@ fn among(l: &[u8], b: u8) -> bool
     false
 }
 
-fn between(least: u8, b: u8, greatest: u8) -> bool
+pub fn between(least: u8, b: u8, greatest: u8) -> bool
     ensures { λ r. ⌜ r ≡ is-between least b greatest ⌝ }
 {
     if b < least {
@@ -168,4 +168,27 @@ pub fn find(w: &[u8], l: &[u8]) -> Found
         i += 1;
     }
     Found::Nothing
+}
+
+// len bytes of the script from start on, or none where they are not all inside.
+pub fn part(script: &[u8], start: usize, len: usize) -> &[u8]
+    ensures { λ r. ⌜ now r ≡ part-of (now (script .entry)) start len ⌝ }
+{
+    if script.len() < len {
+        return &script[..0];
+    }
+    if script.len() - len < start {
+        return &script[..0];
+    }
+    &script[start..start + len]
+}
+
+// Whether l is w.
+pub fn same(w: &[u8], l: &[u8]) -> bool
+    ensures { λ r. ⌜ r ≡ same-as (now (w .entry)) (now (l .entry)) ⌝ }
+{
+    if w.len() != l.len() {
+        return false;
+    }
+    begins(w, l)
 }

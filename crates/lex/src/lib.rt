@@ -3,13 +3,14 @@ ghost use mathlib.Core.Path.{_≡_};
 ghost use Prim.Native.Nat.{_+_, _<_, _^_};
 ghost use lib.ListN.{drop};
 ghost use Rattle.rules.specs.Text.{begins};
-ghost use Rattle.rules.specs.Rule.{tag, take-while, take-until};
+ghost use Rattle.rules.specs.Rule.{tag, _or-else_, take-while, take-until};
 ghost use Rattle.rules.specs.Bytes.{multispace0, comment, skip-comments-and-whitespace, token, identifier};
 ghost use Rattle.lex.specs.Contract.{Lexes, Past, went, read, taken, commented};
 ghost use Rattle.lex.specs.Class.{has};
 use rules::Token;
 
 pub mod bytes;
+pub mod numbers;
 
 use bytes::Class;
 use bytes::Found;
@@ -66,6 +67,17 @@ impl Cursor {
         } else {
             Read::Fail
         }
+    }
+
+    // Past one of two texts.
+    pub fn either(self, script: &[u8], a: &[u8], b: &[u8]) -> Read
+        ensures { λ r. ⌜ Lexes (tag (now (a .entry)) or-else tag (now (b .entry))) (now (script .entry)) self (read r) ⌝ }
+    {
+        let first = self.word(script, a);
+        let Read::Got(c) = first else {
+            return self.word(script, b);
+        };
+        Read::Got(c)
     }
 
     // Past the blanks here.

@@ -4,14 +4,14 @@ use mathlib.Core.Path.{_≡_, refl, sym, ap, _∙_}
 use Prim.Native.Nat.{ℕ, zero, suc, _+_, _-_, _≤_, _<_, max}
 use native.Mathlib.Omega.{arith}
 use native.Mathlib.Numerals.{add-one}
-use borrow.Author.Tests.{eq-eqb, ne-eqb}
+use borrow.Author.Tests.{eq-eqb, ne-eqb, le-leb, lt-leb}
 use mathlib.Core.List.{List, [], _∷_}
 use mathlib.Core.Bool.{Bool, true, false, cond, not, false≢true, true≢false}
 use mathlib.Core.Option.{Option, none, some, Option·map}
 use lib.Dec.{eqb, ltb}
-use lib.ListN.{length, drop, getD, length-drop, drop-of-length-le}
+use lib.ListN.{length, take, drop, getD, length-drop, drop-of-length-le}
 use lib.Seq.{drop-cons}
-use Rattle.rules.specs.Text.{among, begins, run, find}
+use Rattle.rules.specs.Text.{among, begins, same, run, find, part-of}
 
 -- ONE OF THE BYTES OF A LIST, from its place i on
 module _ (l : List ℕ) (b i : ℕ) where
@@ -123,3 +123,31 @@ further-none (some m) = ap some (omega arith)
 pub further-on : (n : ℕ) (o : Option ℕ) → further n (Option·map suc o) ≡ further (n + 1) o
 further-on n none = refl
 further-on n (some m) = ap some (omega arith)
+
+-- THE SAME LIST: one that is as long and begins so
+pub same-long : (w l : List ℕ) → length w ≡ length l → same w l ≡ begins w l
+unfolding same begins
+same-long [] [] e = refl
+same-long [] (b ∷ l) e = absurd (let z : 0 ≡ suc (length l) = e in omega arith)
+same-long (a ∷ w) [] e = absurd (let z : suc (length w) ≡ 0 = e in omega arith)
+same-long (a ∷ w) (b ∷ l) e = ap (λ x. cond (eqb b a) x false) (same-long w l (let z : suc (length w) ≡ suc (length l) = e in omega arith))
+
+pub same-other : (w l : List ℕ) → (length w ≡ length l → ⊥) → same w l ≡ false
+unfolding same
+same-other [] [] n = absurd (n refl)
+same-other [] (b ∷ l) n = refl
+same-other (a ∷ w) [] n = refl
+same-other (a ∷ w) (b ∷ l) n = go (eqb b a) (same-other w l (λ e. n (ap suc e)))
+  where
+    go : (t : Bool) → same w l ≡ false → cond t (same w l) false ≡ false
+    go true e = e
+    go false e = refl
+
+-- A PART that is inside
+pub part-inside : (l : List ℕ) (start len : ℕ) → start + len ≤ length l → part-of l start len ≡ take len (drop start l)
+unfolding part-of
+part-inside l start len h = rw (le-leb _ _ h)
+
+pub part-outside : (l : List ℕ) (start len : ℕ) → length l < start + len → part-of l start len ≡ []
+unfolding part-of
+part-outside l start len h = rw (lt-leb _ _ h)

@@ -7,13 +7,13 @@ use lib.Dec.{eqb, leb, ltb}
 use lib.ListN.{getD}
 use Rattle.rules.specs.Text.{ascii, among}
 use Rattle.rules.specs.Rule.{Rule, _>>=_, _>>_, if_then_else_, give, fails, _or-else_, opt, word, starts, take-while, bytes, at-once, got}
-use Rattle.rules.specs.Bytes.{is-digit, is-hex}
+use Rattle.rules.specs.Bytes.{between, is-digit, is-hex}
 use Rattle.rules.specs.declared.Token.{Token}
 use Rattle.rules.specs.declared.Number.{Number}
 
 -- what a digit counts, and the number that digits of a base write, after those that wrote v
 unfoldable pub digit : ℕ → ℕ
-digit b = cond (leb b 57) (b - 48) (cond (leb b 70) (b - 55) (b - 87))
+digit b = cond (is-digit b) (b - 48) (cond (between 97 b 102) (b - 87) (cond (between 65 b 70) (b - 55) 0))
 
 unfoldable pub written : (base v : ℕ) → List ℕ → ℕ
 written base v [] = v
@@ -38,7 +38,7 @@ dec-uint = do
         l ← bytes digits
         if ltb (written 10 0 l) (2 ^ 64) then give (written 10 0 l) else fails
 
--- one_of(b"KkMm"), and by what it multiplies
+-- one_of(b"KkMm"), as what it multiplies by
 unfoldable pub suffix : Rule ℕ
 suffix = (do
   word "K" or-else word "k"
@@ -46,12 +46,16 @@ suffix = (do
     word "M" or-else word "m"
     give 1048576)
 
-abbrev pub factor : Option ℕ → ℕ
-factor none = 1
-factor (some f) = f
+-- wrapping_mul, where there is a suffix
+abbrev pub scaled : ℕ → Option ℕ → ℕ
+scaled base none = base
+scaled base (some by) = (base * by) % 2 ^ 64
+
+unfoldable pub base-number : Rule ℕ
+base-number = ((word "0x" or-else word "0X") >> hex-uint) or-else dec-uint
 
 unfoldable pub number-with-suffix : Rule Number
 number-with-suffix = do
-  base-number ← ((word "0x" or-else word "0X") >> hex-uint) or-else dec-uint
+  base ← base-number
   by ← opt suffix
-  give (record { value = (base-number * factor by) % 2 ^ 64 })
+  give (record { value = scaled base by })

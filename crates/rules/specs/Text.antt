@@ -1,11 +1,12 @@
 -- Lists of bytes: how a text is written as one, and the questions that the rules ask of one.
-use Prim.Native.Nat.{ℕ, zero, suc}
+use Prim.Native.Nat.{ℕ, zero, suc, _+_}
 use Prim.Native.Char.{code}
 use Prim.Native.String.{String}
 use mathlib.Core.List.{List, [], _∷_}
 use mathlib.Core.Bool.{Bool, true, false, cond, _||_}
 use mathlib.Core.Option.{Option, none, some, Option·map}
-use lib.Dec.{eqb}
+use lib.Dec.{eqb, leb}
+use lib.ListN.{length, take, drop}
 
 -- the bytes of a text of ASCII characters
 abbrev pub ascii : String → List ℕ
@@ -39,3 +40,7 @@ run test (b ∷ l) = cond (test b) (suc (run test l)) 0
 unfoldable pub find : (w l : List ℕ) → Option ℕ
 find w [] = none
 find w (b ∷ l) = cond (begins w (b ∷ l)) (some 0) (Option·map suc (find w l))
+
+-- len bytes of l from start on, or none where they are not all inside
+unfoldable pub part-of : List ℕ → (start len : ℕ) → List ℕ
+part-of l start len = cond (leb (start + len) (length l)) (take len (drop start l)) []

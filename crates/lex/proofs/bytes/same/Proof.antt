@@ -1,0 +1,17 @@
+-- Two lists of one length are the same where one begins with the other.
+use mathlib.Core.Path.{sym, _∙_}
+use borrow.Author.Needs.{needs}
+use lib.ListN.{length}
+use Rattle.rules.proofs.Text.{same-long, same-other}
+use Rattle.lex.specs.Contract.{taken}
+use Rattle.lex.proofs.bytes.same.Statement.{statement}
+use Rattle.lex.proofs.bytes.same.Tie as tie
+
+returns : tie.Need-returns
+returns c = sym (same-other _ _ (c .if1 .taken))
+
+returns-2 : tie.Need-returns-2
+returns-2 c = c .begins .ensures ∙ sym (same-long _ _ (c .before .if1 .left))
+
+pub same-spec : {M : Type 1} → statement M
+same-spec = tie.close (tie.spec returns (λ c κs. search needs) returns-2)
