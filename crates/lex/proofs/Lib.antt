@@ -4,3 +4,4 @@ pub mod Lexes
 mod Skip
 mod Name
 mod Amount
+mod Words

@@ -10,6 +10,7 @@ ghost use Rattle.lex.specs.Class.{has};
 use rules::Token;
 
 pub mod bytes;
+pub mod keywords;
 pub mod numbers;
 
 use bytes::Class;

@@ -39,7 +39,7 @@ marks = "." ∷ "*" ∷ []
 abbrev pub first-of : String × ℕ → String
 first-of x = x .0
 
-abbrev pub keywords : List (List ℕ)
+unfoldable pub keywords : List (List ℕ)
 keywords = map ascii (commands ++ map first-of segment-types ++ functions ++ attributes ++ marks)
 
 -- the number of the first word of the table that is w, counted on from n; 0 where none is
