@@ -1,0 +1,30 @@
+// The tape: five words a record, written one after another over lent words.
+ghost use mathlib.Core.Path.{_≡_};
+ghost use Prim.Native.Nat.{_+_, _*_, _-_, _≤_};
+ghost use mathlib.Core.List.{_++_, _∷_, []};
+ghost use lib.ListN.{length, take, replicate};
+ghost use lib.Seq.{sets};
+
+// Writes the record after the first count records.
+pub fn add(tape: &mut [u64], count: usize, kind: u64, a: u64, b: u64, c: u64, d: u64)
+    requires { ⌜ 5 * count + 5 ≤ length (now tape) ⌝ }
+    ensures { λ _. ⌜ now (tape .exit) ≡ sets (now (tape .entry)) (5 * count) (kind ∷ a ∷ b ∷ c ∷ d ∷ []) ⌝ }
+{
+    let w = 5 * count;
+    tape[w] = kind;
+    tape[w + 1] = a;
+    tape[w + 2] = b;
+    tape[w + 3] = c;
+    tape[w + 4] = d;
+}
+
+// Zeroes the words from one on.
+pub fn zero_from(tape: &mut [u64], from: usize)
+    ensures { λ _. ⌜ now (tape .exit) ≡ take from (now (tape .entry)) ++ replicate (length (now (tape .entry)) - from) 0 ⌝ }
+{
+    let mut i = from;
+    while i < tape.len() {
+        tape[i] = 0;
+        i += 1;
+    }
+}
