@@ -1,7 +1,5 @@
--- What the proofs of several functions use.
+-- What the proofs of several functions use, here and in the crates above.
 mod Or
-pub mod Lexes
 mod Skip
-mod Name
-mod Amount
-mod Words
+pub mod Lexes
+pub mod Name

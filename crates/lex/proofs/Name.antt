@@ -1,6 +1,6 @@
--- What the code knows of a value that was read, from what was shown of it. A token that a run took begins at the cursor and has a byte, since a run of no bytes is not taken.
-use mathlib.Core.Path.{_≡_, refl, sym, ap, subst, _∙_}
-use Prim.Native.Nat.{ℕ, zero, suc, _+_, _^_, _≤_, _<_, max}
+-- A token that a run took begins at the cursor and has a byte, since a run of no bytes is not taken.
+use mathlib.Core.Path.{_≡_, refl, ap, _∙_}
+use Prim.Native.Nat.{ℕ, zero, suc, _+_, _≤_, _<_, max}
 use native.Mathlib.Omega.{arith}
 use native.Mathlib.Nat.{add-zero}
 use native.Mathlib.Decide.{decLt}
@@ -11,15 +11,12 @@ use lib.Dec.{eqb}
 use lib.ListN.{length, take, drop, getD}
 use lib.Seq.{getD-take, getD-drop}
 use Rattle.rules.specs.Text.{run, part-of}
-use Rattle.rules.specs.Numbers.{written}
 use Rattle.rules.specs.Rule.{Held, holds, got, fail, span, bytes-of, take-while}
 use Rattle.rules.specs.declared.Token.{Token}
 use Rattle.rules.proofs.Rule.{not-fail}
 use Rattle.rules.proofs.Text.{run-end, run-inside, part-inside}
-use Rattle.lex.specs.Contract.{went, Lexes, Values}
+use Rattle.lex.specs.Contract.{went, Lexes}
 use Rattle.lex.specs.declared.Cursor.{Cursor}
-use Rattle.lex.specs.declared.numbers.Value.{Value}
-use Rattle.lex.specs.declared.numbers.Value.the-variants.{Fits, Over}
 
 module _ (t : ℕ → Bool) {s : List ℕ} {c : Cursor} {k : Token} {e : Cursor} (x : Lexes (take-while t) s c (went k e)) where
   pub whole : (k ≡ span (c .at) (run t (drop (c .at) s))) × (run t (drop (c .at) s) ≡ 0 → ⊥)
@@ -42,11 +39,3 @@ module _ (t : ℕ → Bool) {s : List ℕ} {c : Cursor} {k : Token} {e : Cursor}
   -- the part of the script that it is
   pub token-bytes : part-of s (k .start) (k .len) ≡ bytes-of s k
   token-bytes = rw (whole .0) (part-inside s (c .at) (run t (drop (c .at) s)) (let w = within in let r = run-inside t s (c .at) in omega arith))
-
-  -- the number that it writes, once it is known that it fits, or that it does not
-  module _ (base : ℕ) {l : List ℕ} (p : l ≡ part-of s (k .start) (k .len)) {r : Value} (y : Values (written base 0 l) r) where
-    pub fitting : {v : ℕ} → r ≡ Fits v → (written base 0 (bytes-of s k) ≡ v) × (written base 0 (bytes-of s k) < 2 ^ 64)
-    fitting {v} e = subst (λ m. Values (written base 0 m) (Fits v)) (p ∙ token-bytes) (subst (Values (written base 0 l)) e y)
-
-    pub passing : r ≡ Over → 2 ^ 64 ≤ written base 0 (bytes-of s k)
-    passing e = subst (λ m. Values (written base 0 m) Over) (p ∙ token-bytes) (subst (Values (written base 0 l)) e y)

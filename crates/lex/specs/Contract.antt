@@ -1,23 +1,16 @@
 -- What the functions show that read bytes and hold no records.
 use mathlib.Core.Path.{_≡_}
-use Prim.Native.Nat.{ℕ, _+_, _^_, _≤_, _<_, max}
+use Prim.Native.Nat.{ℕ, _+_, _≤_, max}
 use mathlib.Core.List.{List}
 use mathlib.Core.Bool.{Bool, true, false}
 use lib.ListN.{length}
 use Rattle.rules.specs.Rule.{Rule, Out, Held, got, fail, deep}
 use Rattle.rules.specs.declared.Token.{Token}
-use Rattle.rules.specs.declared.Number.{Number}
 use Rattle.lex.specs.declared.Cursor.{Cursor}
 use Rattle.lex.specs.declared.Read.{Read}
 use Rattle.lex.specs.declared.Read.the-variants as reading
 use Rattle.lex.specs.declared.Taken.{Taken}
 use Rattle.lex.specs.declared.Taken.the-variants as taking
-use Rattle.lex.specs.declared.numbers.Value.{Value}
-use Rattle.lex.specs.declared.numbers.Value.the-variants.{Fits, Over}
-use Rattle.lex.specs.declared.numbers.Valued.{Valued}
-use Rattle.lex.specs.declared.numbers.Valued.the-variants as valuing
-use Rattle.lex.specs.declared.numbers.Numbered.{Numbered}
-use Rattle.lex.specs.declared.numbers.Numbered.the-variants as numbering
 use Rattle.lex.specs.declared.Commented.{Commented}
 use Rattle.lex.specs.declared.Commented.the-variants as commenting
 
@@ -39,19 +32,6 @@ abbrev pub commented : Cursor → Commented → Went Bool
 commented c (commenting.Past e) = went true e
 commented c commenting.Absent = went false c
 commented c commenting.Unended = lost
-
-abbrev pub valued : Valued → Went ℕ
-valued (valuing.Got n e) = went n e
-valued valuing.Fail = lost
-
-abbrev pub numbered : Numbered → Went Number
-numbered (numbering.Got n e) = went n e
-numbered numbering.Fail = lost
-
--- n is this number, which fits 64 bits, or does not fit them
-abbrev pub Values : ℕ → Value → Type 0
-Values n (Fits v) = (n ≡ v) × (n < 2 ^ 64)
-Values n Over = 2 ^ 64 ≤ n
 
 -- as the rules answer, where h is held all along
 abbrev pub with-held : {A : Type 0} → Held → Went A → Out A

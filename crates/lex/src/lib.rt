@@ -1,4 +1,4 @@
-// Bytes of a script (01, rules 1 and 2): blanks, comments, tokens, words and numbers, read from a cursor that is handed on.
+// Bytes of a script (01, rule 1): blanks, comments, tokens and words, read from a cursor that is handed on.
 ghost use mathlib.Core.Path.{_≡_};
 ghost use Prim.Native.Nat.{_+_, _<_, _^_};
 ghost use lib.ListN.{drop};
@@ -10,8 +10,6 @@ ghost use Rattle.lex.specs.Class.{has};
 use rules::Token;
 
 pub mod bytes;
-pub mod keywords;
-pub mod numbers;
 
 use bytes::Class;
 use bytes::Found;

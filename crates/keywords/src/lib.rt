@@ -1,0 +1,123 @@
+// Keywords: the number of a word in 000's order, from 1, and the types of segments among them.
+ghost use mathlib.Core.Path.{_≡_};
+ghost use mathlib.Core.List.{[]};
+ghost use Prim.Native.Nat.{_+_, _<_, _≤_};
+ghost use lib.ListN.{length, take, drop, getD};
+ghost use Rattle.rules.specs.Text.{same};
+ghost use Rattle.rules.specs.Keywords.{keywords, keyword-of, segment-type as segment-type-of};
+ghost use Rattle.keywords.specs.Words.{table, typed};
+use lex::bytes;
+
+// The words that a token or an identifier is compared with, in 000's order, a blank after each.
+const WORDS: [u8; 402] =
+    *b"GROUP INPUT OUTPUT_FORMAT OUTPUT_ARCH AS_NEEDED SECTIONS ENTRY VERSION PROVIDE PROVIDE_HIDDEN ASSERT MEMORY PHDRS PT_NULL PT_LOAD PT_DYNAMIC PT_INTERP PT_NOTE PT_SHLIB PT_PHDR PT_TLS PT_GNU_EH_FRAME PT_GNU_STACK PT_GNU_RELRO PT_GNU_PROPERTY PT_GNU_SFRAME SIZEOF ALIGNOF ADDR ORIGIN LENGTH LOADADDR ALIGN MIN MAX SEGMENT_START DEFINED ABSOLUTE SIZEOF_HEADERS NOLOAD READONLY DSECT COPY INFO OVERLAY . * ";
+
+// How long each of them is.
+const LENGTHS: [usize; 47] = [
+    5,
+    5,
+    13,
+    11,
+    9,
+    8,
+    5,
+    7,
+    7,
+    14,
+    6,
+    6,
+    5,
+    7,
+    7,
+    10,
+    9,
+    7,
+    8,
+    7,
+    6,
+    15,
+    12,
+    12,
+    15,
+    13,
+    6,
+    7,
+    4,
+    6,
+    6,
+    8,
+    5,
+    3,
+    3,
+    13,
+    7,
+    8,
+    14,
+    6,
+    8,
+    5,
+    4,
+    4,
+    7,
+    1,
+    1,
+];
+
+// The type of a segment.
+pub enum SegmentType {
+    Known(u64),
+    Unknown,
+}
+
+fn length_of(n: usize) -> usize
+    requires { ⌜ n < 47 ⌝ }
+    ensures { λ r. ⌜ r ≡ length (getD keywords n []) ⌝ }
+{
+    LENGTHS[n]
+}
+
+fn stands_at(at: usize, len: usize, l: &[u8]) -> bool
+    requires { ⌜ at + len ≤ 402 ⌝ }
+    ensures { λ r. ⌜ r ≡ same (take len (drop at table)) (now (l .entry)) ⌝ }
+{
+    bytes::same(bytes::part(&WORDS, at, len), l)
+}
+
+// The number of the word l, and 0 where it is none of them.
+pub fn keyword(l: &[u8]) -> usize
+    ensures { λ r. ⌜ r ≡ keyword-of (now (l .entry)) ⌝ }
+{
+    let mut n = 0;
+    let mut at = 0;
+    while n < 47 {
+        let len = length_of(n);
+        if stands_at(at, len, l) {
+            return n + 1;
+        }
+        at = at + len + 1;
+        n += 1;
+    }
+    0
+}
+
+// The type of a segment that a keyword names.
+pub fn segment_type(k: usize) -> SegmentType
+    ensures { λ r. ⌜ typed r ≡ segment-type-of k ⌝ }
+{
+    match k {
+        14 => SegmentType::Known(0),
+        15 => SegmentType::Known(1),
+        16 => SegmentType::Known(2),
+        17 => SegmentType::Known(3),
+        18 => SegmentType::Known(4),
+        19 => SegmentType::Known(5),
+        20 => SegmentType::Known(6),
+        21 => SegmentType::Known(7),
+        22 => SegmentType::Known(0x6474e550),
+        23 => SegmentType::Known(0x6474e551),
+        24 => SegmentType::Known(0x6474e552),
+        25 => SegmentType::Known(0x6474e553),
+        26 => SegmentType::Known(0x6474e554),
+        _ => SegmentType::Unknown,
+    }
+}
