@@ -4,3 +4,4 @@ pub mod Rule
 pub mod Pays
 pub mod Bytes
 pub mod Numbers
+pub mod Expressions

@@ -11,7 +11,7 @@ use mathlib.Core.Option.{Option, none, some}
 use lib.ListN.{length, drop}
 use lib.Dec.{leb, eqb, ltb}
 use Rattle.rules.specs.Text.{ascii, begins, run, find}
-use Rattle.rules.specs.Rule.{Held, Out, got, fail, deep, Rule, at-once, give, fails, too-deep, after, most-after, _>>=_, _>>_, if_then_else_, otherwise, most-otherwise, _or-else_, opt, is-some, size, counted, repeating, repeat-till, holds, more, add, back, tag, word, starts, not-here, eof, span, take-while, pass-while, taken-until, take-until, bytes}
+use Rattle.rules.specs.Rule.{Held, Out, got, fail, deep, Rule, at-once, give, fails, too-deep, after, most-after, _>>=_, _>>_, if_then_else_, otherwise, most-otherwise, _or-else_, opt, is-some, perhaps, here, size, counted, repeating, repeat-till, holds, more, add, back, tag, word, starts, not-here, eof, span, take-while, pass-while, taken-until, take-until, bytes}
 use Rattle.rules.specs.declared.Token.{Token}
 use Rattle.rules.proofs.Text.{begins-inside, run-inside, find-inside}
 
@@ -52,8 +52,8 @@ onto x k fail y = tt
 onto x k deep y = tt
 
 -- what opt answers, and the most that is held in it, where its rule answers o and holds t at most
-abbrev perhaps : {A : Type 0} → ℕ → Held → Out A → Out (Option A)
-perhaps p h o = otherwise (after o (λ a q g. got (some a) q g)) (got none p h)
+abbrev out-perhaps : {A : Type 0} → ℕ → Held → Out A → Out (Option A)
+out-perhaps p h o = otherwise (after o (λ a q g. got (some a) q g)) (got none p h)
 
 abbrev most-perhaps : {A : Type 0} → ℕ → Held → Out A → ℕ
 most-perhaps {A} t h o = max (max t (most-after o (λ a q g. g .count))) (most-otherwise (after {B = Option A} o (λ a q g. got (some a) q g)) (h .count))
@@ -78,13 +78,23 @@ module _ {A B : Type 0} {f i j k : ℕ} where
   unfolding opt _>>=_ _or-else_ give
   opted {m} {n} x y = record { fair = λ s p h a b. go s p h (m .out s p h) (m .most s p h) (x .fair s p h a b) (y none .fair s p h a b) b }
     where
-      go : (s : List ℕ) (p : ℕ) (h : Held) (o : Out A) (t : ℕ) → Fair s f p j o t → Fair s f p k (n none .out s p h) (n none .most s p h) → h .count + i ≤ p → Fair s f p k (after (perhaps p h o) (λ a q g. n a .out s q g)) (max (most-perhaps t h o) (most-after (perhaps p h o) (λ a q g. n a .most s q g)))
+      go : (s : List ℕ) (p : ℕ) (h : Held) (o : Out A) (t : ℕ) → Fair s f p j o t → Fair s f p k (n none .out s p h) (n none .most s p h) → h .count + i ≤ p → Fair s f p k (after (out-perhaps p h o) (λ a q g. n a .out s q g)) (max (most-perhaps t h o) (most-after (out-perhaps p h o) (λ a q g. n a .most s q g)))
       go s p h (got a q g) t u v b =
           let w = y (some a) .fair s q g (u .paid .floor) (u .paid .few) in
           let c = u .paid in
           record { never = omega arith; paid = onto (u .paid) k (n (some a) .out s q g) (w .paid) }
       go s p h fail t u v b = record { never = omega arith; paid = v .paid }
       go s p h deep t u v b = record { never = omega arith; paid = tt }
+
+  -- opt, where what follows is told apart by `perhaps`
+  pub opted-or : {m : Rule A} {n : Rule B} {g : A → Rule B} → Pays f i j m → Pays f i k n → ((a : A) → Pays f j k (g a)) → Pays f i k (opt m >>= (λ o. perhaps o n g))
+  unfolding perhaps
+  opted-or x y z = opted x (elim [ none ↦ y | some a ↦ z a ])
+
+module _ {A B : Type 0} {f i k : ℕ} where
+  -- opt of a rule that leaves what there was
+  pub opted-still : {m : Rule A} {n : Option A → Rule B} → Pays f i i m → ((o : Option A) → Pays f i k (n o)) → Pays f i k (opt m >>= n)
+  opted-still x y = opted x (elim [ none ↦ y none | some a ↦ y (some a) ])
 
 module _ {A : Type 0} {f i j : ℕ} where
   -- where more is left than is wanted
@@ -144,6 +154,10 @@ module _ {f i : ℕ} where
   pub gives : {A : Type 0} (x : A) → Pays f i i (give x)
   unfolding give
   gives x = record { fair = stays }
+
+  pub places : Pays f i i here
+  unfolding here
+  places = record { fair = λ s p h. stays s p h }
 
   pub sized : Pays f i i size
   unfolding size

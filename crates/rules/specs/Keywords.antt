@@ -51,7 +51,7 @@ unfoldable pub keyword-of : List ℕ → ℕ
 keyword-of = numbered 1 keywords
 
 -- the number of a token, and whether a number is that of a word
-abbrev pub keyword : Token → Rule ℕ
+unfoldable pub keyword : Token → Rule ℕ
 keyword t = bytes t >>= (λ w. give (keyword-of w))
 
 infix 40 _is_

@@ -4,3 +4,4 @@ pub mod Rule
 pub mod Bytes
 pub mod Keywords
 pub mod Numbers
+pub mod Expressions

@@ -92,7 +92,15 @@ abbrev pub is-some : {A : Type 0} → Option A → Bool
 is-some none = false
 is-some (some a) = true
 
--- how long the script is, and how many records are held
+-- what follows where there was nothing, and where there was something
+unfoldable pub perhaps : {A B : Type 0} → Option A → Rule B → (A → Rule B) → Rule B
+perhaps none n f = n
+perhaps (some a) n f = f a
+
+-- the place, how long the script is, and how many records are held
+unfoldable pub here : Rule ℕ
+here = at-once (λ s p h. got p p h)
+
 unfoldable pub size : Rule ℕ
 size = at-once (λ s p h. got (length s) p h)
 

@@ -10,3 +10,23 @@ pub struct Token {
 pub struct Number {
     pub value: u64,
 }
+
+// How a script is read: as wild reads it, or by the manual's table of operators.
+pub enum Mode {
+    Wild,
+    Book,
+}
+
+// A row of operators of one strength. Of `Comparison` at most one is read, of `Comparisons` any number.
+pub enum Row {
+    LogicalOr,
+    LogicalAnd,
+    Comparison,
+    Comparisons,
+    BitwiseOr,
+    BitwiseXor,
+    BitwiseAnd,
+    Shift,
+    Additive,
+    Multiplicative,
+}
