@@ -1,1 +1,3 @@
+-- What the proofs of several functions use, here and in the crates above.
 mod Words
+pub mod Runs

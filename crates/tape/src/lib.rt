@@ -4,6 +4,15 @@ ghost use Prim.Native.Nat.{_+_, _*_, _-_, _≤_};
 ghost use mathlib.Core.List.{_++_, _∷_, []};
 ghost use lib.ListN.{length, take, replicate};
 ghost use lib.Seq.{sets};
+ghost use Rattle.tape.specs.Contract.{Pushed};
+use lex::Cursor;
+
+// What a reading function answers.
+pub enum Step {
+    Got(Cursor),
+    Fail,
+    Deep,
+}
 
 // Writes the record after the first count records.
 pub fn add(tape: &mut [u64], count: usize, kind: u64, a: u64, b: u64, c: u64, d: u64)
@@ -16,6 +25,18 @@ pub fn add(tape: &mut [u64], count: usize, kind: u64, a: u64, b: u64, c: u64, d:
     tape[w + 2] = b;
     tape[w + 3] = c;
     tape[w + 4] = d;
+}
+
+// One record more, at the cursor's count.
+pub fn push(tape: &mut [u64], at: Cursor, kind: u64, a: u64, b: u64, c: u64, d: u64) -> Cursor
+    requires { ⌜ 5 * at .count + 5 ≤ length (now tape) ⌝ }
+    ensures { λ r. ⌜ Pushed (now (tape .entry)) at (kind ∷ a ∷ b ∷ c ∷ d ∷ []) (now (tape .exit)) r ⌝ }
+{
+    add(tape, at.count, kind, a, b, c, d);
+    Cursor {
+        at: at.at,
+        count: at.count + 1,
+    }
 }
 
 // Zeroes the words from one on.

@@ -1,0 +1,140 @@
+-- How what the parts of a rule show makes what the whole shows, a law for each way of going on: after bytes, after a call, after a record.
+-- Each by rewriting with what the parts answer; that a byte was read for each record is the rule's own law.
+use mathlib.Core.Path.{_≡_, refl, sym, ap, subst, _∙_}
+use Prim.Native.Nat.{ℕ, suc, _+_, _*_, _-_, _≤_, _<_, max}
+use native.Mathlib.Omega.{arith}
+use native.Mathlib.Numerals.{add-one}
+use mathlib.Core.List.{List, [], _∷_, _++_}
+use mathlib.Core.Bool.{Bool, true, false}
+use mathlib.Core.Option.{Option, none, some}
+use lib.ListN.{length, take, drop, length-append}
+use lib.Seq.{sets, sets-eq, take-at, take-take, take-append-le, length-take-le}
+use Rattle.rules.specs.Rule.{Rule, Held, Out, got, fail, deep, holds, more, _>>=_, _>>_, if_then_else_, _or-else_, opt, perhaps, give, fails, too-deep, add}
+use Rattle.rules.proofs.Pays.{Fine, Paid, PaidOut}
+use Rattle.lex.specs.Contract.{Went, went, lost, sunk, Lexes, MovedTo}
+use Rattle.lex.specs.declared.Cursor.{Cursor}
+use Rattle.tape.specs.Contract.{Room, Pushed, shown, Came, CameTo, Reads}
+
+-- what agrees on the first n words agrees on the first m
+pub fewer : (m n : ℕ) (t u : List ℕ) → m ≤ n → take n u ≡ take n t → take m u ≡ take m t
+fewer m n t u h e = sym (take-take m n u h) ∙ ap (take m) e ∙ take-take m n t h
+
+-- what is said and kept, without what follows from the rule's law
+pub record Runs {A : Type 0} (rule : Rule A) (s t : List ℕ) (c : Cursor) (r : Went A) (t′ : List ℕ) : Type 0 where
+  pub said : rule .out s (c .at) (holds (c .count) t) ≡ shown t′ r
+  pub kept : take (5 * c .count) t′ ≡ take (5 * c .count) t
+
+pub runs : {A : Type 0} {rule : Rule A} {s t : List ℕ} {c : Cursor} {r : Went A} {t′ : List ℕ} → Reads rule s t c r t′ → Runs rule s t c r t′
+runs x = record { said = x .said; kept = x .kept }
+
+-- a rule that pays came within the script, with a byte for each record
+pub met : {A : Type 0} {rule : Rule A} {s t : List ℕ} {c : Cursor} {r : Went A} {t′ : List ℕ} → Fine rule → Room s t c → Runs rule s t c r t′ → Reads rule s t c r t′
+met {A} {rule} {s} {t} {c} {r} {t′} fine room x = record { said = x .said; kept = x .kept; came = go r (x .said) }
+  where
+    go : (r : Went A) → rule .out s (c .at) (holds (c .count) t) ≡ shown t′ r → CameTo s c r
+    go (went a e) q =
+        let p = subst (PaidOut s (c .count) (c .at) (c .at - c .count)) q (fine (c .count) (c .at - c .count) .fair s (c .at) (holds (c .count) t) (omega arith) (omega arith) .paid) in
+        record { on = p .on; inside = omega arith; grown = p .floor; paid = omega arith }
+    go lost q = tt
+    go sunk q = tt
+
+-- one record more on the tape is one more that is held
+module _ {t : List ℕ} {c : Cursor} {r t₁ : List ℕ} {e : Cursor} (x : Pushed t c r t₁ e) (five : length r ≡ 5) (room : 5 * c .count + 5 ≤ length t) where
+  grown : take (5 * suc (c .count)) t₁ ≡ take (5 * c .count) t ++ r
+  grown =
+      let l : length (take (5 * c .count) t ++ r) ≡ 5 * suc (c .count) = simp length-append (omega (arith, length-take-le (5 * c .count) t (omega arith))) in
+      rw (x .written) (ap (take (5 * suc (c .count))) (sets-eq r t (5 * c .count) (omega arith)) ∙ take-at (take (5 * c .count) t ++ r) (drop (5 * c .count + length r) t) (5 * suc (c .count)) l)
+
+  one-more : more (holds (c .count) t) r ≡ holds (e .count) t₁
+  one-more = rw (x .count, add-one (c .count)) (ap (λ w. record { count = suc (c .count); words = w }) (sym grown))
+
+  still-there : take (5 * c .count) t₁ ≡ take (5 * c .count) t
+  still-there =
+      sym (take-take (5 * c .count) (5 * suc (c .count)) t₁ (omega arith)) ∙ ap (take (5 * c .count)) grown
+      ∙ take-append-le (5 * c .count) (take (5 * c .count) t) r (let l = length-take-le (5 * c .count) t (omega arith) in omega arith)
+      ∙ take-take (5 * c .count) (5 * c .count) t (omega arith)
+
+-- once the answer is known
+pub known-read : {R A : Type 0} {rule : Rule A} {s t : List ℕ} {c : Cursor} {t′ : List ℕ} (view : R → Went A) {r r′ : R} → Reads rule s t c (view r) t′ → r ≡ r′ → Reads rule s t c (view r′) t′
+known-read {rule = rule} {s} {t} {c} {t′} view x e = subst (λ r. Reads rule s t c (view r) t′) e x
+
+module _ {s t : List ℕ} {c : Cursor} where
+  -- AFTER BYTES, which hold what was held
+  module _ {A B : Type 0} {m : Rule A} (n : A → Rule B) where
+    pub bytes-then : {a : A} {e : Cursor} {r : Went B} {t′ : List ℕ} → Lexes m s c (went a e) → Runs (n a) s t e r t′ → Runs (m >>= n) s t c r t′
+    unfolding _>>=_
+    bytes-then {a} {e} {r} {t′} x y = let q : c .count ≡ e .count = sym (x .moved .count) in record {
+      said = rw (x .said (holds (c .count) t), q) (y .said);
+      kept = rw q (y .kept);
+    }
+
+    pub bytes-stop : Lexes m s c lost → Runs (m >>= n) s t c lost t
+    unfolding _>>=_
+    bytes-stop x = record { said = rw (x .said (holds (c .count) t)); kept = refl }
+
+    -- AFTER A CALL
+    pub call-then : {a : A} {e : Cursor} {t₁ : List ℕ} {r : Went B} {t′ : List ℕ} → Reads m s t c (went a e) t₁ → Runs (n a) s t₁ e r t′ → Runs (m >>= n) s t c r t′
+    unfolding _>>=_
+    call-then {e = e} {t₁} {r} {t′} x y = record {
+      said = rw (x .said) (y .said);
+      kept = fewer (5 * c .count) (5 * e .count) t₁ t′ (let k = x .came in omega arith) (y .kept) ∙ x .kept;
+    }
+
+    pub call-lost : {t₁ : List ℕ} → Reads m s t c lost t₁ → Runs (m >>= n) s t c lost t₁
+    unfolding _>>=_
+    call-lost x = record { said = rw (x .said); kept = x .kept }
+
+    pub call-sunk : {t₁ : List ℕ} → Reads m s t c sunk t₁ → Runs (m >>= n) s t c sunk t₁
+    unfolding _>>=_
+    call-sunk x = record { said = rw (x .said); kept = x .kept }
+
+  module _ {A : Type 0} {r : Went A} {t′ : List ℕ} where
+    -- tests
+    pub chosen-run : {m : Rule A} (n : Rule A) {b : Bool} → b ≡ true → Runs m s t c r t′ → Runs (if b then m else n) s t c r t′
+    unfolding if_then_else_
+    chosen-run n e x = rw e x
+
+    pub other-run : (m : Rule A) {n : Rule A} {b : Bool} → b ≡ false → Runs n s t c r t′ → Runs (if b then m else n) s t c r t′
+    unfolding if_then_else_
+    other-run m e x = rw e x
+
+    -- tries
+    pub second-run : {m n : Rule A} → Lexes m s c lost → Runs n s t c r t′ → Runs (m or-else n) s t c r t′
+    unfolding _or-else_
+    second-run x y = record { said = rw (x .said (holds (c .count) t)) (y .said); kept = y .kept }
+
+    pub second-call : {m n : Rule A} {t₁ : List ℕ} → Runs m s t c lost t₁ → Runs n s t₁ c r t′ → Runs (m or-else n) s t c r t′
+    unfolding _or-else_
+    second-call x y = record { said = rw (x .said, ← x .kept) (y .said); kept = y .kept ∙ x .kept }
+
+  pub first-run : {A : Type 0} {m : Rule A} (n : Rule A) {a : A} {e : Cursor} {t′ : List ℕ} → Runs m s t c (went a e) t′ → Runs (m or-else n) s t c (went a e) t′
+  unfolding _or-else_
+  first-run n x = record { said = rw (x .said); kept = x .kept }
+
+  pub sunk-run : {A : Type 0} {m : Rule A} (n : Rule A) {t′ : List ℕ} → Runs m s t c sunk t′ → Runs (m or-else n) s t c sunk t′
+  unfolding _or-else_
+  sunk-run n x = record { said = rw (x .said); kept = x .kept }
+
+  -- bytes that end a rule
+  pub as-bytes : {A : Type 0} {m : Rule A} {a : A} {e : Cursor} → Lexes m s c (went a e) → Runs m s t c (went a e) t
+  as-bytes {a = a} {e} x = let q : c .count ≡ e .count = sym (x .moved .count) in record { said = x .said (holds (c .count) t) ∙ ap (λ n. got a (e .at) (holds n t)) q; kept = refl }
+
+  pub as-lost : {A : Type 0} {m : Rule A} → Lexes m s c lost → Runs m s t c lost t
+  as-lost x = record { said = x .said (holds (c .count) t); kept = refl }
+
+  pub sinks-here : {A : Type 0} → Runs {A = A} too-deep s t c sunk t
+  unfolding too-deep
+  sinks-here = record { said = refl; kept = refl }
+
+  -- AFTER A RECORD
+  module _ (k a₁ a₂ a₃ a₄ : ℕ) {t₁ : List ℕ} {e : Cursor} (x : Pushed t c (k ∷ a₁ ∷ a₂ ∷ a₃ ∷ a₄ ∷ []) t₁ e) (room : 5 * c .count + 5 ≤ length t) where
+    pub added : Runs (add k a₁ a₂ a₃ a₄) s t c (went tt e) t₁
+    unfolding add
+    added = record { said = rw (x .at) (ap (got tt (c .at)) (one-more x refl room)); kept = still-there x refl room }
+
+    pub added-then : {B : Type 0} (n : Unit {0} → Rule B) {r : Went B} {t′ : List ℕ} → Runs (n tt) s t₁ e r t′ → Runs (add k a₁ a₂ a₃ a₄ >>= n) s t c r t′
+    unfolding _>>=_ add
+    added-then n {r} {t′} y = record {
+      said = rw (one-more x refl room, ← x .at) (y .said);
+      kept = fewer (5 * c .count) (5 * e .count) t₁ t′ (let q = x .count in omega arith) (y .kept) ∙ still-there x refl room;
+    }
