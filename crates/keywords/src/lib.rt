@@ -63,6 +63,75 @@ const LENGTHS: [usize; 47] = [
     1,
 ];
 
+// The numbers of the words.
+pub const GROUP: usize = 1;
+
+pub const INPUT: usize = 2;
+
+pub const OUTPUT_FORMAT: usize = 3;
+
+pub const OUTPUT_ARCH: usize = 4;
+
+pub const AS_NEEDED: usize = 5;
+
+pub const SECTIONS: usize = 6;
+
+pub const ENTRY: usize = 7;
+
+pub const VERSION: usize = 8;
+
+pub const PROVIDE: usize = 9;
+
+pub const PROVIDE_HIDDEN: usize = 10;
+
+pub const ASSERT: usize = 11;
+
+pub const MEMORY: usize = 12;
+
+pub const PHDRS: usize = 13;
+
+pub const SIZEOF: usize = 27;
+
+pub const ALIGNOF: usize = 28;
+
+pub const ADDR: usize = 29;
+
+pub const ORIGIN: usize = 30;
+
+pub const LENGTH: usize = 31;
+
+pub const LOADADDR: usize = 32;
+
+pub const ALIGN: usize = 33;
+
+pub const MIN: usize = 34;
+
+pub const MAX: usize = 35;
+
+pub const SEGMENT_START: usize = 36;
+
+pub const DEFINED: usize = 37;
+
+pub const ABSOLUTE: usize = 38;
+
+pub const SIZEOF_HEADERS: usize = 39;
+
+pub const NOLOAD: usize = 40;
+
+pub const READONLY: usize = 41;
+
+pub const DSECT: usize = 42;
+
+pub const COPY: usize = 43;
+
+pub const INFO: usize = 44;
+
+pub const OVERLAY: usize = 45;
+
+pub const DOT: usize = 46;
+
+pub const STAR: usize = 47;
+
 // The type of a segment.
 pub enum SegmentType {
     Known(u64),

@@ -1,18 +1,19 @@
 -- How what the parts of a rule show makes what the whole shows, a law for each combinator and primitive, where no record is added: each by
 -- rewriting with what the parts answer.
 use mathlib.Core.Path.{_≡_, refl, sym, ap, subst, _∙_}
-use Prim.Native.Nat.{ℕ, _+_, _≤_, _<_, max}
+use Prim.Native.Nat.{ℕ, suc, _+_, _≤_, _<_, max}
 use Prim.Native.String.{String}
 use native.Mathlib.Omega.{arith}
 use borrow.Author.Tests.{eq-eqb, ne-eqb, le-leb, lt-leb}
-use mathlib.Core.List.{List}
+use mathlib.Core.List.{List, []}
 use mathlib.Core.Bool.{Bool, true, false}
 use mathlib.Core.Option.{Option, none, some}
 use lib.ListN.{length, drop}
 use Rattle.rules.specs.Text.{ascii, begins, run, find}
-use Rattle.rules.specs.Rule.{Rule, Held, got, fail, deep, _>>=_, if_then_else_, _or-else_, opt, give, fails, size, tag, starts, span, take-while, pass-while, take-until, bytes-of, bytes}
+use Rattle.rules.specs.Rule.{Rule, Held, got, fail, deep, _>>=_, if_then_else_, _or-else_, opt, give, fails, size, holds, tag, not-tag, starts, span, take-while, pass-while, take-until, bytes-of, bytes}
 use Rattle.rules.specs.declared.Token.{Token}
 use Rattle.rules.proofs.Text.{begins-inside, run-inside, find-inside}
+use Rattle.rules.proofs.Pays.{Earns, PaidOut}
 use Rattle.lex.specs.Contract.{Went, went, lost, sunk, with-held, Moved, MovedTo, Past, Lexes}
 use Rattle.lex.specs.declared.Cursor.{Cursor}
 
@@ -29,6 +30,12 @@ ahead x h = record { on = omega arith; inside = omega arith; count = x .count }
 -- once the answer is known
 pub known : {R A : Type 0} {rule : Rule A} {s : List ℕ} {c : Cursor} (view : R → Went A) {r r′ : R} → Lexes rule s c (view r) → r ≡ r′ → Lexes rule s c (view r′)
 known {rule = rule} {s} {c} view x e = subst (λ r. Lexes rule s c (view r)) e x
+
+-- a rule that earns a record read a byte
+pub earned : {A : Type 0} {m : Rule A} {s : List ℕ} {c e : Cursor} {a : A} → Earns m → Lexes m s c (went a e) → c .at < e .at
+earned {s = s} {c} x y =
+    let p = subst (PaidOut s 0 (c .at) (suc (c .at))) (y .said (holds 0 [])) (x 0 (c .at) .fair s (c .at) (holds 0 []) (omega arith) (omega arith) .paid) in
+    omega (arith, p .few)
 
 module _ {s : List ℕ} {c : Cursor} where
   -- COMBINATORS
@@ -105,6 +112,14 @@ module _ {s : List ℕ} {c : Cursor} where
     pub tag-lost : begins w (drop (c .at) s) ≡ false → Lexes (tag w) s c lost
     unfolding tag
     tag-lost b = record { said = λ h. rw b; moved = tt }
+
+    pub not-tag-read : begins w (drop (c .at) s) ≡ false → Lexes (not-tag w) s c (went tt c)
+    unfolding not-tag
+    not-tag-read b = record { said = λ h. rw b; moved = still s c }
+
+    pub not-tag-lost : begins w (drop (c .at) s) ≡ true → Lexes (not-tag w) s c lost
+    unfolding not-tag
+    not-tag-lost b = record { said = λ h. rw b; moved = tt }
 
     module _ (least : ℕ) where
       pub until-lost : find w (drop (c .at) s) ≡ none → Lexes (take-until least w) s c lost

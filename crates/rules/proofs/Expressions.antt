@@ -1,17 +1,16 @@
 -- Expressions pay: an operand, an operator and a function each read a byte of their own for their record; rung by rung, level by level.
-use Prim.Native.Nat.{ℕ, zero, suc}
+use Prim.Native.Nat.{ℕ, zero, suc, _≤_}
+use lib.ListN.{length}
 use native.Mathlib.Omega.{arith}
 use mathlib.Core.List.{List, [], _∷_}
-use mathlib.Core.Option.{none, some}
-use mathlib.Core.Bool.{true, false}
-use Rattle.rules.specs.Rule.{Rule, if_then_else_}
-use Rattle.rules.specs.Expressions.{ladder, sign, single, comparison, operator, most-of, chain, rung, climb, Deeper, function-arg, named, align, least-or-greatest, segment-start, absolute, assert, function, identifier-or-function, grouping, number, primary, prefixed, unary, ternary, levels, expression}
+use Rattle.rules.specs.Rule.{Rule, _or-else_}
+use Rattle.rules.specs.Expressions.{ladder, signed, signed-unless, comparison, operator, most-of, chain, rung, climb, Deeper, function-arg, named, align, least-or-greatest, segment-head, segment-start, absolute, assert-message, assert, function, identifier-or-function, grouping, number, primary, prefix, unary, branches, ternary, levels, expression}
 use Rattle.rules.specs.Keywords.{keyword}
 use Rattle.rules.specs.declared.Token.{Token}
 use Rattle.rules.specs.declared.Mode.{Mode}
 use Rattle.rules.specs.declared.Row.{Row}
 use Rattle.rules.specs.declared.Row.the-variants.{LogicalOr, LogicalAnd, Comparison, Comparisons, BitwiseOr, BitwiseXor, BitwiseAnd, Shift, Additive, Multiplicative}
-use Rattle.rules.proofs.Pays.{Pays, Fine, Earns, _with-it_, _before_, _or-it_, opted, opted-or, opted-still, either, weaker, wrong, sinks, gives, places, sized, peeks, absent, named as names, over, earns, costs}
+use Rattle.rules.proofs.Pays.{Pays, Fine, Earns, _with-it_, _before_, _or-it_, opted-or, opted-still, either, weaker, wrong, sinks, gives, places, sized, peeks, absent, named as names, over, earns, costs}
 use Rattle.rules.proofs.Bytes.{multispace0-pays, skip-pays, token-pays, identifier-pays, segment-name-pays}
 use Rattle.rules.proofs.Numbers.{number-pays}
 
@@ -21,26 +20,38 @@ unfolding keyword
 keyword-pays t f i = names _ with-it (λ w. gives _)
 
 -- an operator reads a byte
+signed-pays : (w : List ℕ) (kind : ℕ) → 1 ≤ length w → Earns (signed w kind)
+unfolding signed
+signed-pays w kind h f i = earns w h before gives _
+
+signed-unless-pays : (w next : List ℕ) (kind : ℕ) → 1 ≤ length w → Earns (signed-unless w next kind)
+unfolding signed-unless
+signed-unless-pays w next kind h f i = earns w h before absent next before gives _
+
+two-pays : (a b : List ℕ) (j k : ℕ) → 1 ≤ length a → 1 ≤ length b → Earns (signed a j or-else signed b k)
+two-pays a b j k g h f i = signed-pays a j g f i or-it signed-pays b k h f i
+
+pub prefix-pays : Earns prefix
+unfolding prefix
+prefix-pays f i = signed-unless-pays _ _ _ (omega arith) f i or-it two-pays _ _ _ _ (omega arith) (omega arith) f i
+
 comparison-pays : Earns comparison
-unfolding comparison sign
+unfolding comparison
 comparison-pays f i =
-    ((earns _ (omega arith) before gives _) or-it (earns _ (omega arith) before gives _))
-    or-it (((earns _ (omega arith) before gives _) or-it (earns _ (omega arith) before gives _))
-    or-it ((earns _ (omega arith) before gives _) or-it (earns _ (omega arith) before gives _)))
+    two-pays _ _ _ _ (omega arith) (omega arith) f i
+    or-it (two-pays _ _ _ _ (omega arith) (omega arith) f i or-it two-pays _ _ _ _ (omega arith) (omega arith) f i)
 
 pub operator-pays : (row : Row) → Earns (operator row)
-unfolding sign single
-operator-pays LogicalOr f i = earns _ (omega arith) before gives _
-operator-pays LogicalAnd f i = earns _ (omega arith) before gives _
+operator-pays LogicalOr f i = signed-pays _ _ (omega arith) f i
+operator-pays LogicalAnd f i = signed-pays _ _ (omega arith) f i
 operator-pays Comparison f i = comparison-pays f i
 operator-pays Comparisons f i = comparison-pays f i
-operator-pays BitwiseOr f i = earns _ (omega arith) before absent _ before gives _
-operator-pays BitwiseXor f i = earns _ (omega arith) before gives _
-operator-pays BitwiseAnd f i = earns _ (omega arith) before absent _ before gives _
-operator-pays Shift f i = (earns _ (omega arith) before gives _) or-it (earns _ (omega arith) before gives _)
-operator-pays Additive f i = (earns _ (omega arith) before gives _) or-it (earns _ (omega arith) before gives _)
-operator-pays Multiplicative f i =
-    (earns _ (omega arith) before gives _) or-it ((earns _ (omega arith) before gives _) or-it (earns _ (omega arith) before gives _))
+operator-pays BitwiseOr f i = signed-unless-pays _ _ _ (omega arith) f i
+operator-pays BitwiseXor f i = signed-pays _ _ (omega arith) f i
+operator-pays BitwiseAnd f i = signed-unless-pays _ _ _ (omega arith) f i
+operator-pays Shift f i = two-pays _ _ _ _ (omega arith) (omega arith) f i
+operator-pays Additive f i = two-pays _ _ _ _ (omega arith) (omega arith) f i
+operator-pays Multiplicative f i = signed-pays _ _ (omega arith) f i or-it two-pays _ _ _ _ (omega arith) (omega arith) f i
 
 module _ {op : Rule ℕ} {operand : Rule (Unit {0})} (x : Earns op) (y : Fine operand) where
   chain-pays : (n : ℕ) → Fine (chain op operand n)
@@ -72,12 +83,22 @@ pub named-pays : (kind : ℕ) → Fine (named kind)
 unfolding named
 named-pays kind f i = function-arg-pays f i with-it (λ arg. costs _ _ _ _ _)
 
+pub segment-head-pays : Earns segment-head
+unfolding segment-head
+segment-head-pays f i =
+    over _ before multispace0-pays f i before over _ before segment-name-pays f i with-it (λ name. over _ before multispace0-pays f (suc i)
+    before over _ before multispace0-pays f (suc i) before gives _)
+
+pub assert-message-pays : Earns assert-message
+unfolding assert-message
+assert-message-pays f i =
+    skip-pays f i before over _ before skip-pays f i before token-pays f i with-it (λ message. skip-pays f (suc i) before over _
+    before skip-pays f (suc i) before gives _)
+
 pub assert-pays : (kind : ℕ) {e : Rule (Unit {0})} → Fine e → Fine (assert kind e)
 unfolding assert
 assert-pays kind y f i =
-    places with-it (λ bracket. earns _ (omega arith) before skip-pays f (suc i) before y f (suc i) before skip-pays f (suc i) before over _
-    before skip-pays f (suc i) before weaker (token-pays f (suc i)) with-it (λ message. skip-pays f (suc i) before over _ before skip-pays f (suc i)
-    before costs _ _ _ _ _))
+    places with-it (λ bracket. over _ before skip-pays f i before y f i before assert-message-pays f i with-it (λ message. costs _ _ _ _ _))
 
 module _ {deeper : Deeper} (x : Sound deeper) where
   pub align-pays : Fine (align deeper)
@@ -96,9 +117,7 @@ module _ {deeper : Deeper} (x : Sound deeper) where
   pub segment-start-pays : Fine (segment-start deeper)
   unfolding segment-start
   segment-start-pays f i =
-      earns _ (omega arith) before multispace0-pays f (suc i) before over _ before weaker (segment-name-pays f (suc i)) with-it (λ name. over _
-      before multispace0-pays f (suc i) before over _ before multispace0-pays f (suc i) before x .expressions f (suc i)
-      before multispace0-pays f (suc i) before over _ before costs _ _ _ _ _)
+      segment-head-pays f i with-it (λ name. x .expressions f (suc i) before multispace0-pays f (suc i) before over _ before costs _ _ _ _ _)
 
   pub absolute-pays : Fine (absolute deeper)
   unfolding absolute
@@ -129,30 +148,21 @@ module _ {deeper : Deeper} (x : Sound deeper) where
   primary-pays f i =
       multispace0-pays f i before (grouping-pays f i or-it ((number-pays f i with-it (λ n. costs _ _ _ _ _)) or-it identifier-or-function-pays f i))
 
-  pub prefixed-pays : (kind f i : ℕ) → Pays f (suc i) i (prefixed deeper kind)
-  unfolding prefixed
-  prefixed-pays kind f i = x .unaries f (suc i) before costs _ _ _ _ _
-
   pub unary-pays : Fine (unary deeper)
-  unfolding unary if_then_else_
+  unfolding unary
   unary-pays f i =
-      multispace0-pays f i before opted {k = i} (earns _ (omega arith) before absent _) (elim [
-        | some a ↦ prefixed-pays 24 f i
-        | none ↦ opted {k = i} (earns _ (omega arith)) (elim [
-          | some a ↦ prefixed-pays 25 f i
-          | none ↦ opted {k = i} (earns _ (omega arith)) (elim [ some a ↦ prefixed-pays 26 f i | none ↦ primary-pays f i ])
-        ])
-      ])
+      multispace0-pays f i before opted-or (prefix-pays f i) (primary-pays f i) (λ kind. x .unaries f (suc i) before costs _ _ _ _ _)
+
+  pub branches-pays : Fine (branches deeper)
+  unfolding branches
+  branches-pays f i =
+      multispace0-pays f i before x .expressions f i before multispace0-pays f i before earns _ (omega arith) before multispace0-pays f (suc i)
+      before x .expressions f (suc i) before costs _ _ _ _ _ before multispace0-pays f i
 
   pub ternary-pays : (mode : Mode) → Fine (ternary mode deeper)
-  unfolding ternary if_then_else_
+  unfolding ternary
   ternary-pays mode f i =
-      climb-pays (ladder mode) unary-pays f i before multispace0-pays f i before opted {k = i} (earns _ (omega arith))
-      (elim [
-        | none ↦ gives _
-        | some a ↦ multispace0-pays f (suc i) before x .expressions f (suc i) before multispace0-pays f (suc i) before over _
-            before multispace0-pays f (suc i) before x .expressions f (suc i) before costs _ _ _ _ _ before multispace0-pays f i
-      ])
+      climb-pays (ladder mode) unary-pays f i before multispace0-pays f i before opted-still (over _) (λ asked. either _ (branches-pays f i) (gives _))
 
 pub levels-sound : (mode : Mode) (n : ℕ) → Sound (levels mode n)
 unfolding levels

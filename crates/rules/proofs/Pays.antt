@@ -11,7 +11,7 @@ use mathlib.Core.Option.{Option, none, some}
 use lib.ListN.{length, drop}
 use lib.Dec.{leb, eqb, ltb}
 use Rattle.rules.specs.Text.{ascii, begins, run, find}
-use Rattle.rules.specs.Rule.{Held, Out, got, fail, deep, Rule, at-once, give, fails, too-deep, after, most-after, _>>=_, _>>_, if_then_else_, otherwise, most-otherwise, _or-else_, opt, is-some, perhaps, here, size, counted, repeating, repeat-till, holds, more, add, back, tag, word, starts, not-here, eof, span, take-while, pass-while, taken-until, take-until, bytes}
+use Rattle.rules.specs.Rule.{Held, Out, got, fail, deep, Rule, at-once, give, fails, too-deep, after, most-after, _>>=_, _>>_, if_then_else_, otherwise, most-otherwise, _or-else_, opt, is-some, perhaps, here, size, counted, repeating, repeat-till, holds, more, add, back, tag, word, starts, not-tag, eof, span, take-while, pass-while, taken-until, take-until, bytes}
 use Rattle.rules.specs.declared.Token.{Token}
 use Rattle.rules.proofs.Text.{begins-inside, run-inside, find-inside}
 
@@ -176,9 +176,9 @@ module _ {f i : ℕ} where
   tested true s p h a b = refused f i s p i h b
   tested false s p h a b = stays s p h a b
 
-  pub absent : (w : String) → Pays f i i (not-here w)
-  unfolding not-here
-  absent w = record { fair = λ s p h. tested (begins (ascii w) (drop p s)) s p h }
+  pub absent : (w : List ℕ) → Pays f i i (not-tag w)
+  unfolding not-tag
+  absent w = record { fair = λ s p h. tested (begins w (drop p s)) s p h }
 
   pub ends : Pays f i i eof
   unfolding eof

@@ -2,9 +2,9 @@
 use Prim.Native.Nat.{ℕ, zero, suc}
 use Prim.Native.String.{String}
 use mathlib.Core.List.{List, [], _∷_}
-use mathlib.Core.Bool.{Bool, true, false, _||_}
 use mathlib.Core.Option.{Option, none, some}
-use Rattle.rules.specs.Rule.{Rule, _>>=_, _>>_, if_then_else_, give, done, fails, too-deep, _or-else_, opt, is-some, perhaps, here, size, add, word, starts, not-here}
+use Rattle.rules.specs.Text.{ascii}
+use Rattle.rules.specs.Rule.{Rule, _>>=_, _>>_, if_then_else_, give, done, fails, too-deep, _or-else_, opt, is-some, perhaps, here, size, add, tag, not-tag, word, starts}
 use Rattle.rules.specs.Bytes.{multispace0, skip-comments-and-whitespace, token, identifier, segment-name}
 use Rattle.rules.specs.Keywords.{keyword, _is_}
 use Rattle.rules.specs.Numbers.{number-with-suffix}
@@ -20,12 +20,18 @@ abbrev pub ladder : Mode → List Row
 ladder Wild = LogicalOr ∷ LogicalAnd ∷ Comparison ∷ BitwiseOr ∷ BitwiseXor ∷ BitwiseAnd ∷ Shift ∷ Additive ∷ Multiplicative ∷ []
 ladder Book = LogicalOr ∷ LogicalAnd ∷ BitwiseOr ∷ BitwiseXor ∷ BitwiseAnd ∷ Comparisons ∷ Shift ∷ Additive ∷ Multiplicative ∷ []
 
--- a sign, as the kind of its record; one that is not read if it is doubled
-unfoldable pub sign : String → (kind : ℕ) → Rule ℕ
-sign w kind = word w >> give kind
+-- a sign, as the kind of its record; one that is not read before another
+unfoldable pub signed : (w : List ℕ) → (kind : ℕ) → Rule ℕ
+signed w kind = tag w >> give kind
 
-unfoldable pub single : String → (kind : ℕ) → Rule ℕ
-single w kind = word w >> (not-here w >> give kind)
+unfoldable pub signed-unless : (w next : List ℕ) → (kind : ℕ) → Rule ℕ
+signed-unless w next kind = tag w >> (not-tag next >> give kind)
+
+abbrev pub sign : String → (kind : ℕ) → Rule ℕ
+sign w = signed (ascii w)
+
+abbrev pub sign-unless : (w next : String) → (kind : ℕ) → Rule ℕ
+sign-unless w next = signed-unless (ascii w) (ascii next)
 
 unfoldable pub comparison : Rule ℕ
 comparison = (sign "<=" 11 or-else sign ">=" 12) or-else ((sign "==" 13 or-else sign "!=" 14) or-else (sign "<" 9 or-else sign ">" 10))
@@ -35,9 +41,9 @@ operator LogicalOr = sign "||" 23
 operator LogicalAnd = sign "&&" 22
 operator Comparison = comparison
 operator Comparisons = comparison
-operator BitwiseOr = single "|" 18
+operator BitwiseOr = sign-unless "|" "|" 18
 operator BitwiseXor = sign "^" 19
-operator BitwiseAnd = single "&" 17
+operator BitwiseAnd = sign-unless "&" "&" 17
 operator Shift = sign "<<" 20 or-else sign ">>" 21
 operator Additive = sign "+" 4 or-else sign "-" 5
 operator Multiplicative = sign "*" 6 or-else (sign "/" 7 or-else sign "%" 8)
@@ -98,6 +104,19 @@ named kind = do
   arg ← function-arg
   add kind (arg .start) (arg .len) 0 0
 
+-- SEGMENT_START up to its expression
+unfoldable pub segment-head : Rule Token
+segment-head = do
+  word "("
+  multispace0
+  word "\""
+  name ← segment-name
+  word "\""
+  multispace0
+  word ","
+  multispace0
+  give name
+
 module _ (deeper : Deeper) where
   unfoldable pub align : Rule (Unit {0})
   align = do
@@ -128,14 +147,7 @@ module _ (deeper : Deeper) where
 
   unfoldable pub segment-start : Rule (Unit {0})
   segment-start = do
-    word "("
-    multispace0
-    word "\""
-    name ← segment-name
-    word "\""
-    multispace0
-    word ","
-    multispace0
+    name ← segment-head
     deeper .expressions
     multispace0
     word ")"
@@ -151,12 +163,8 @@ module _ (deeper : Deeper) where
     add 27 0 0 0 0
 
 -- parse_assert, of an expression that is read as it is told: a function's argument opens a level, a command's does not
-unfoldable pub assert : (kind : ℕ) → (expression : Rule (Unit {0})) → Rule (Unit {0})
-assert kind expression = do
-  bracket ← here
-  word "("
-  skip-comments-and-whitespace
-  expression
+unfoldable pub assert-message : Rule Token
+assert-message = do
   skip-comments-and-whitespace
   word ","
   skip-comments-and-whitespace
@@ -164,6 +172,15 @@ assert kind expression = do
   skip-comments-and-whitespace
   word ")"
   skip-comments-and-whitespace
+  give message
+
+unfoldable pub assert : (kind : ℕ) → (expression : Rule (Unit {0})) → Rule (Unit {0})
+assert kind expression = do
+  bracket ← here
+  word "("
+  skip-comments-and-whitespace
+  expression
+  message ← assert-message
   add kind (message .start) (message .len) bracket 0
 
 unfoldable pub function : Deeper → (keyword : ℕ) → Rule (Unit {0})
@@ -212,37 +229,36 @@ primary deeper = do
   multispace0
   grouping deeper or-else (number or-else identifier-or-function deeper)
 
--- a prefix operator and its operand
-unfoldable pub prefixed : Deeper → (kind : ℕ) → Rule (Unit {0})
-prefixed deeper kind = do
-  deeper .unaries
-  add kind 0 0 0 0
+-- 000 tries the three prefix operators one after another; `!` is not read before `=`
+unfoldable pub prefix : Rule ℕ
+prefix = sign-unless "!" "=" 24 or-else (sign "~" 25 or-else sign "-" 26)
 
 unfoldable pub unary : Deeper → Rule (Unit {0})
 unary deeper = do
   multispace0
-  negated ← opt (word "!" >> not-here "=")
-  if is-some negated then prefixed deeper 24 else do
-    inverted ← opt (word "~")
-    if is-some inverted then prefixed deeper 25 else do
-      minus ← opt (word "-")
-      if is-some minus then prefixed deeper 26 else primary deeper
+  found ← opt prefix
+  perhaps found (primary deeper) (λ kind. do
+    deeper .unaries
+    add kind 0 0 0 0)
+
+-- what follows `?`
+unfoldable pub branches : Deeper → Rule (Unit {0})
+branches deeper = do
+  multispace0
+  deeper .expressions
+  multispace0
+  word ":"
+  multispace0
+  deeper .expressions
+  add 28 0 0 0 0
+  multispace0
 
 unfoldable pub ternary : Mode → Deeper → Rule (Unit {0})
 ternary mode deeper = do
   climb (ladder mode) (unary deeper)
   multispace0
   asked ← opt (word "?")
-  if is-some asked then (do
-    multispace0
-    deeper .expressions
-    multispace0
-    word ":"
-    multispace0
-    deeper .expressions
-    add 28 0 0 0 0
-    multispace0)
-      else done
+  if is-some asked then branches deeper else done
 
 -- LEVELS: so many may still be opened; with none left, to open one is too deep
 unfoldable pub levels : Mode → ℕ → Deeper

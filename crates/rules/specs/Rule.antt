@@ -148,9 +148,12 @@ word w = tag (ascii w)
 unfoldable pub starts : String → Rule Bool
 starts w = at-once (λ s p h. got (begins (ascii w) (drop p s)) p h)
 
--- not: a text does not stand here
-unfoldable pub not-here : String → Rule (Unit {0})
-not-here w = at-once (λ s p h. cond (begins (ascii w) (drop p s)) fail (got tt p h))
+-- not: these bytes do not stand here
+unfoldable pub not-tag : List ℕ → Rule (Unit {0})
+not-tag w = at-once (λ s p h. cond (begins w (drop p s)) fail (got tt p h))
+
+abbrev pub not-here : String → Rule (Unit {0})
+not-here w = not-tag (ascii w)
 
 -- eof: nothing stands here
 unfoldable pub eof : Rule (Unit {0})

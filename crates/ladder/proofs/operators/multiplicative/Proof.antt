@@ -1,0 +1,28 @@
+-- The signs are tried in their order.
+use borrow.Author.Needs.{needs}
+use Rattle.lex.proofs.Lexes.{known, first, second, given}
+use Rattle.ladder.specs.Answers.{operated}
+use Rattle.ladder.proofs.operators.multiplicative.Statement.{statement}
+use Rattle.ladder.proofs.operators.multiplicative.Tie as tie
+
+returns : tie.Need-returns
+returns c =
+    let sign = c .before .before .before .before .before .sign in
+    second (known operated (sign .ensures) (c .before .before .before .enum-told .given .1)) (c .sign-of-two .ensures)
+
+returns-2 : tie.Need-returns-2
+returns-2 c = first _ (known operated (c .before .before .before .sign .ensures) (c .before .times .given .1))
+
+pub multiplicative-spec : {M : Type 1} → statement M
+multiplicative-spec =
+    tie.close
+    (tie.spec
+    (λ c. search needs)
+    (λ c κs. search needs)
+    (λ c. search needs)
+    (λ c. search needs)
+    (λ c. search needs)
+    (λ c. search needs)
+    (λ c κs. search needs)
+    returns
+    returns-2)

@@ -1,0 +1,32 @@
+-- The signs are tried in their order.
+use borrow.Author.Needs.{needs}
+use Rattle.rules.specs.Expressions.{prefix as prefix-rule}
+use Rattle.lex.proofs.Lexes.{known, first, second, given}
+use Rattle.ladder.specs.Answers.{operated}
+use Rattle.ladder.proofs.operators.prefix.Statement.{statement}
+use Rattle.ladder.proofs.operators.prefix.Tie as tie
+
+returns : tie.Need-returns
+unfolding prefix-rule
+returns c =
+    let sign-unless = c .before .before .before .before .before .sign-unless in
+    second (known operated (sign-unless .ensures) (c .before .before .before .enum-told .given .1)) (c .sign-of-two .ensures)
+
+returns-2 : tie.Need-returns-2
+unfolding prefix-rule
+returns-2 c = first _ (known operated (c .before .before .before .sign-unless .ensures) (c .before .negated .given .1))
+
+pub prefix-spec : {M : Type 1} → statement M
+prefix-spec =
+    tie.close
+    (tie.spec
+    (λ c. search needs)
+    (λ c. search needs)
+    (λ c κs. search needs)
+    (λ c. search needs)
+    (λ c. search needs)
+    (λ c. search needs)
+    (λ c. search needs)
+    (λ c κs. search needs)
+    returns
+    returns-2)

@@ -1,0 +1,16 @@
+-- Each mode has its rows.
+use borrow.Author.Needs.{needs}
+use Rattle.lex.proofs.Lexes.{given}
+use Rattle.ladder.proofs.operators.row_at.Statement.{statement}
+use Rattle.ladder.proofs.operators.row_at.Tie as tie
+
+returns : tie.Need-returns
+returns c = rw (c .before .enum-told .given .1) (c .wild-row .ensures)
+
+returns-2 : tie.Need-returns-2
+returns-2 c = rw (c .before .enum-told2 .given .1) (c .book-row .ensures)
+
+pub row-at-spec : {M : Type 1} → statement M
+row-at-spec =
+    tie.close
+    (tie.spec (λ c. search needs) (λ c κs. search needs) (λ c. search needs) (λ c κs. search needs) returns returns-2)

@@ -1,0 +1,16 @@
+-- The second is tried where the first fails.
+use borrow.Author.Needs.{needs}
+use Rattle.lex.proofs.Lexes.{known, first, second, given}
+use Rattle.ladder.specs.Answers.{operated}
+use Rattle.ladder.proofs.operators.sign_of_two.Statement.{statement}
+use Rattle.ladder.proofs.operators.sign_of_two.Tie as tie
+
+returns : tie.Need-returns
+returns c = second (known operated (c .before .before .before .sign .ensures) (c .before .enum-told .given .1)) (c .sign2 .ensures)
+
+returns-2 : tie.Need-returns-2
+returns-2 c = first _ (known operated (c .before .before .before .sign .ensures) (c .before .first .given .1))
+
+pub sign-of-two-spec : {M : Type 1} → statement M
+sign-of-two-spec =
+    tie.close (tie.spec (λ c κs. search needs) (λ c. search needs) (λ c. search needs) (λ c κs. search needs) returns returns-2)

@@ -1,0 +1,2 @@
+// Expressions (01, rule 3): the ladder in both modes.
+pub mod operators;
