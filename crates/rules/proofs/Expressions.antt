@@ -4,7 +4,7 @@ use lib.ListN.{length}
 use native.Mathlib.Omega.{arith}
 use mathlib.Core.List.{List, [], _∷_}
 use Rattle.rules.specs.Rule.{Rule, _or-else_}
-use Rattle.rules.specs.Expressions.{ladder, signed, signed-unless, comparison, operator, most-of, chain, rung, climb, Deeper, function-arg, named, align, least-or-greatest, segment-head, segment-start, absolute, assert-message, assert, function, identifier-or-function, grouping, number, primary, prefix, unary, branches, ternary, levels, expression}
+use Rattle.rules.specs.Expressions.{ladder, signed, signed-unless, comparison, operator, most-of, chain, rung, climb, Deeper, function-arg, named, align, least-or-greatest, quoted-segment, segment-head, segment-start, absolute, assert-message, assert, function, identifier-or-function, grouping, number, primary, prefix, unary, branches, ternary, levels, expression}
 use Rattle.rules.specs.Keywords.{keyword}
 use Rattle.rules.specs.declared.Token.{Token}
 use Rattle.rules.specs.declared.Mode.{Mode}
@@ -83,16 +83,20 @@ pub named-pays : (kind : ℕ) → Fine (named kind)
 unfolding named
 named-pays kind f i = function-arg-pays f i with-it (λ arg. costs _ _ _ _ _)
 
+quoted-segment-pays : Earns quoted-segment
+unfolding quoted-segment
+quoted-segment-pays f i = over _ before segment-name-pays f i with-it (λ name. over _ before gives _)
+
 pub segment-head-pays : Earns segment-head
 unfolding segment-head
 segment-head-pays f i =
-    over _ before multispace0-pays f i before over _ before segment-name-pays f i with-it (λ name. over _ before multispace0-pays f (suc i)
-    before over _ before multispace0-pays f (suc i) before gives _)
+    over _ before multispace0-pays f i before quoted-segment-pays f i with-it (λ name. multispace0-pays f (suc i) before over _
+    before multispace0-pays f (suc i) before gives _)
 
 pub assert-message-pays : Earns assert-message
 unfolding assert-message
 assert-message-pays f i =
-    skip-pays f i before over _ before skip-pays f i before token-pays f i with-it (λ message. skip-pays f (suc i) before over _
+    (skip-pays f i before over _) before skip-pays f i before token-pays f i with-it (λ message. (skip-pays f (suc i) before over _)
     before skip-pays f (suc i) before gives _)
 
 pub assert-pays : (kind : ℕ) {e : Rule (Unit {0})} → Fine e → Fine (assert kind e)

@@ -104,14 +104,19 @@ named kind = do
   arg ← function-arg
   add kind (arg .start) (arg .len) 0 0
 
--- SEGMENT_START up to its expression
+-- SEGMENT_START up to its expression: a name in quotes, which is not empty
+unfoldable pub quoted-segment : Rule Token
+quoted-segment = do
+  word "\""
+  name ← segment-name
+  word "\""
+  give name
+
 unfoldable pub segment-head : Rule Token
 segment-head = do
   word "("
   multispace0
-  word "\""
-  name ← segment-name
-  word "\""
+  name ← quoted-segment
   multispace0
   word ","
   multispace0
@@ -163,14 +168,15 @@ module _ (deeper : Deeper) where
     add 27 0 0 0 0
 
 -- parse_assert, of an expression that is read as it is told: a function's argument opens a level, a command's does not
+abbrev pub skip-to : String → Rule (Unit {0})
+skip-to w = skip-comments-and-whitespace >> word w
+
 unfoldable pub assert-message : Rule Token
 assert-message = do
-  skip-comments-and-whitespace
-  word ","
+  skip-to ","
   skip-comments-and-whitespace
   message ← token
-  skip-comments-and-whitespace
-  word ")"
+  skip-to ")"
   skip-comments-and-whitespace
   give message
 

@@ -11,7 +11,7 @@ use lib.ListN.{length, take, drop, length-append}
 use lib.Seq.{sets, sets-eq, take-at, take-take, take-append-le, length-take-le}
 use Rattle.rules.specs.Rule.{Rule, Held, Out, got, fail, deep, holds, more, _>>=_, _>>_, if_then_else_, _or-else_, opt, perhaps, give, fails, too-deep, add}
 use Rattle.rules.proofs.Pays.{Fine, Paid, PaidOut}
-use Rattle.lex.specs.Contract.{Went, went, lost, sunk, Lexes, MovedTo}
+use Rattle.lex.specs.Contract.{Went, went, lost, sunk, Lexes, Moved}
 use Rattle.lex.specs.declared.Cursor.{Cursor}
 use Rattle.tape.specs.Contract.{Room, Pushed, shown, Came, CameTo, Reads}
 
@@ -37,6 +37,10 @@ met {A} {rule} {s} {t} {c} {r} {t′} fine room x = record { said = x .said; kep
         record { on = p .on; inside = omega arith; grown = p .floor; paid = omega arith }
     go lost q = tt
     go sunk q = tt
+
+-- where a byte was read that has no record yet, there is room for one
+pub space : {s t : List ℕ} {c e : Cursor} → Room s t c → Moved s c e → c .at < e .at → 5 * e .count + 5 ≤ length t
+space room m h = let q = m .count in omega arith
 
 -- one record more on the tape is one more that is held
 module _ {t : List ℕ} {c : Cursor} {r t₁ : List ℕ} {e : Cursor} (x : Pushed t c r t₁ e) (five : length r ≡ 5) (room : 5 * c .count + 5 ≤ length t) where
