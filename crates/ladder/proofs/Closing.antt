@@ -1,4 +1,4 @@
--- A closing bracket pays for the record after it.
+-- A closing bracket pays for the record after it, and so does a colon.
 use Prim.Native.Nat.{ℕ}
 use native.Mathlib.Omega.{arith}
 use Rattle.rules.specs.Text.{ascii}
@@ -6,6 +6,9 @@ use Rattle.rules.specs.Rule.{_>>_, word, add}
 use Rattle.rules.specs.Bytes.{multispace0}
 use Rattle.rules.proofs.Pays.{Fine, Earns, _before_, earns, costs}
 use Rattle.rules.proofs.Bytes.{multispace0-pays}
+
+pub colon-pays : Earns (word ":")
+colon-pays f i = earns _ (omega arith)
 
 pub bracket-pays : Earns (word ")")
 bracket-pays f i = earns _ (omega arith)

@@ -1,2 +1,5 @@
 mod Rows
 mod Closing
+mod Levels
+mod Chained
+mod Names

@@ -10,7 +10,8 @@ use mathlib.Core.Bool.{Bool, true, false}
 use mathlib.Core.Option.{Option, none, some}
 use lib.ListN.{length, drop}
 use Rattle.rules.specs.Text.{ascii, begins, run, find}
-use Rattle.rules.specs.Rule.{Rule, Held, got, fail, deep, _>>=_, if_then_else_, _or-else_, opt, give, fails, size, holds, tag, not-tag, starts, span, take-while, pass-while, take-until, bytes-of, bytes}
+use Rattle.rules.specs.Rule.{Rule, Held, got, fail, deep, _>>=_, if_then_else_, _or-else_, opt, give, fails, here, size, holds, tag, not-tag, starts, span, take-while, pass-while, take-until, bytes-of, bytes}
+use Rattle.rules.specs.Keywords.{keyword, keyword-of}
 use Rattle.rules.specs.declared.Token.{Token}
 use Rattle.rules.proofs.Text.{begins-inside, run-inside, find-inside}
 use Rattle.rules.proofs.Pays.{Earns, PaidOut}
@@ -91,6 +92,10 @@ module _ {s : List ℕ} {c : Cursor} where
   unfolding fails
   refused = record { said = λ h. refl; moved = tt }
 
+  pub here-at : Lexes here s c (went (c .at) c)
+  unfolding here
+  here-at = record { said = λ h. refl; moved = still s c }
+
   pub sized : Lexes size s c (went (length s) c)
   unfolding size
   sized = record { said = λ h. refl; moved = still s c }
@@ -98,6 +103,10 @@ module _ {s : List ℕ} {c : Cursor} where
   pub named : (t : Token) → Lexes (bytes t) s c (went (bytes-of s t) c)
   unfolding bytes
   named t = record { said = λ h. refl; moved = still s c }
+
+  pub keyed : (t : Token) {k : ℕ} → k ≡ keyword-of (bytes-of s t) → Lexes (keyword t) s c (went k c)
+  unfolding keyword
+  keyed t e = then-on _ (named t) (given-as (sym e))
 
   pub asked : {b : Bool} (w : String) → b ≡ begins (ascii w) (drop (c .at) s) → Lexes (starts w) s c (went b c)
   unfolding starts

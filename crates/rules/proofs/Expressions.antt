@@ -54,7 +54,7 @@ operator-pays Additive f i = two-pays _ _ _ _ (omega arith) (omega arith) f i
 operator-pays Multiplicative f i = signed-pays _ _ (omega arith) f i or-it two-pays _ _ _ _ (omega arith) (omega arith) f i
 
 module _ {op : Rule ℕ} {operand : Rule (Unit {0})} (x : Earns op) (y : Fine operand) where
-  chain-pays : (n : ℕ) → Fine (chain op operand n)
+  pub chain-pays : (n : ℕ) → Fine (chain op operand n)
   unfolding chain
   chain-pays zero f i = gives _
   chain-pays (suc n) f i =
@@ -109,8 +109,8 @@ module _ {deeper : Deeper} (x : Sound deeper) where
   unfolding align
   align-pays f i =
       earns _ (omega arith) before x .expressions f (suc i) before multispace0-pays f (suc i) before opted-still (over _)
-      (λ second. either _ (multispace0-pays f (suc i) before x .expressions f (suc i) before multispace0-pays f (suc i) before gives _) (gives _)
-      with-it (λ operands. over _ before costs _ _ _ _ _))
+      (λ second. either _ (multispace0-pays f (suc i) before x .expressions f (suc i) before multispace0-pays f (suc i) before over _ before costs _ _ _ _ _)
+      (over _ before costs _ _ _ _ _))
 
   pub least-or-greatest-pays : (kind : ℕ) → Fine (least-or-greatest deeper kind)
   unfolding least-or-greatest
@@ -147,10 +147,13 @@ module _ {deeper : Deeper} (x : Sound deeper) where
   unfolding grouping
   grouping-pays f i = over _ before x .expressions f i before over _
 
+  pub number-or-name-pays : Fine (number or-else identifier-or-function deeper)
+  unfolding number
+  number-or-name-pays f i = (number-pays f i with-it (λ n. costs _ _ _ _ _)) or-it identifier-or-function-pays f i
+
   pub primary-pays : Fine (primary deeper)
-  unfolding primary number
-  primary-pays f i =
-      multispace0-pays f i before (grouping-pays f i or-it ((number-pays f i with-it (λ n. costs _ _ _ _ _)) or-it identifier-or-function-pays f i))
+  unfolding primary
+  primary-pays f i = multispace0-pays f i before (grouping-pays f i or-it number-or-name-pays f i)
 
   pub unary-pays : Fine (unary deeper)
   unfolding unary

@@ -123,20 +123,22 @@ segment-head = do
   give name
 
 module _ (deeper : Deeper) where
+  -- 000 reads the `)` where the two ways meet again
   unfoldable pub align : Rule (Unit {0})
   align = do
     word "("
     deeper .expressions
     multispace0
     second ← opt (word ",")
-    operands ← if is-some second then (do
+    if is-some second then (do
       multispace0
       deeper .expressions
       multispace0
-      give 2)
-        else give 1
-    word ")"
-    add 29 operands 0 0 0
+      word ")"
+      add 29 2 0 0 0)
+        else do
+          word ")"
+          add 29 1 0 0 0
 
   unfoldable pub least-or-greatest : (kind : ℕ) → Rule (Unit {0})
   least-or-greatest kind = do

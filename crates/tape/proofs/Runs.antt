@@ -13,7 +13,12 @@ use Rattle.rules.specs.Rule.{Rule, Held, Out, got, fail, deep, holds, more, _>>
 use Rattle.rules.proofs.Pays.{Fine, Paid, PaidOut}
 use Rattle.lex.specs.Contract.{Went, went, lost, sunk, Lexes, Moved}
 use Rattle.lex.specs.declared.Cursor.{Cursor}
-use Rattle.tape.specs.Contract.{Room, Pushed, shown, Came, CameTo, Reads}
+use Rattle.tape.specs.Contract.{Room, Pushed, stepped, shown, Came, CameTo, Reads}
+use Rattle.tape.specs.declared.Step.{Step}
+use Rattle.tape.specs.declared.Step.the-variants as step
+use Rattle.tape.proofs.Step.{the-type}
+use types.Run.{OneOf, miss}
+use denote.Enum.Declared.{tagOf}
 
 -- what agrees on the first n words agrees on the first m
 pub fewer : (m n : ℕ) (t u : List ℕ) → m ≤ n → take n u ≡ take n t → take m u ≡ take m t
@@ -49,10 +54,10 @@ module _ {t : List ℕ} {c : Cursor} {r t₁ : List ℕ} {e : Cursor} (x : Pushe
       let l : length (take (5 * c .count) t ++ r) ≡ 5 * suc (c .count) = simp length-append (omega (arith, length-take-le (5 * c .count) t (omega arith))) in
       rw (x .written) (ap (take (5 * suc (c .count))) (sets-eq r t (5 * c .count) (omega arith)) ∙ take-at (take (5 * c .count) t ++ r) (drop (5 * c .count + length r) t) (5 * suc (c .count)) l)
 
-  one-more : more (holds (c .count) t) r ≡ holds (e .count) t₁
+  pub one-more : more (holds (c .count) t) r ≡ holds (e .count) t₁
   one-more = rw (x .count, add-one (c .count)) (ap (λ w. record { count = suc (c .count); words = w }) (sym grown))
 
-  still-there : take (5 * c .count) t₁ ≡ take (5 * c .count) t
+  pub still-there : take (5 * c .count) t₁ ≡ take (5 * c .count) t
   still-there =
       sym (take-take (5 * c .count) (5 * suc (c .count)) t₁ (omega arith)) ∙ ap (take (5 * c .count)) grown
       ∙ take-append-le (5 * c .count) (take (5 * c .count) t) r (let l = length-take-le (5 * c .count) t (omega arith) in omega arith)
@@ -91,6 +96,12 @@ module _ {s t : List ℕ} {c : Cursor} where
     pub call-sunk : {t₁ : List ℕ} → Reads m s t c sunk t₁ → Runs (m >>= n) s t c sunk t₁
     unfolding _>>=_
     call-sunk x = record { said = rw (x .said); kept = x .kept }
+
+  -- whichever of the two it is: what `let Step::Got(e) = r else { return r; };` leaves
+  pub call-stopped : {m : Rule (Unit {0})} (n : Unit {0} → Rule (Unit {0})) (r : Step) {t₁ : List ℕ} → Reads m s t c (stepped r) t₁ → OneOf (1 ∷ 2 ∷ []) (tagOf the-type r) → Runs (m >>= n) s t c (stepped r) t₁
+  call-stopped n (step.Got e) x w = absurd (miss (1 ∷ 2 ∷ []) 0 tt w)
+  call-stopped n step.Fail x w = call-lost n x
+  call-stopped n step.Deep x w = call-sunk n x
 
   module _ {A : Type 0} {r : Went A} {t′ : List ℕ} where
     -- tests

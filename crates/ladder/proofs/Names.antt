@@ -1,0 +1,24 @@
+-- Two names that the ladder tells apart by their numbers, which are computed from the table.
+use mathlib.Core.Path.{_≡_}
+use Prim.Native.Nat.{ℕ}
+use borrow.Author.Tests.{eq-eqb, ne-eqb}
+use mathlib.Core.Bool.{true, false}
+use Rattle.rules.specs.Text.{same}
+use Rattle.rules.specs.Keywords.{_is_, keywords, numbered, keyword-of}
+
+module _ (k : ℕ) where
+  pub dot : k ≡ 46 → (k is ".") ≡ true
+  unfolding keyword-of numbered keywords same
+  dot e = eq-eqb k 46 e
+
+  pub no-dot : (k ≡ 46 → ⊥) → (k is ".") ≡ false
+  unfolding keyword-of numbered keywords same
+  no-dot n = ne-eqb k 46 n
+
+  pub headers : k ≡ 39 → (k is "SIZEOF_HEADERS") ≡ true
+  unfolding keyword-of numbered keywords same
+  headers e = eq-eqb k 39 e
+
+  pub no-headers : (k ≡ 39 → ⊥) → (k is "SIZEOF_HEADERS") ≡ false
+  unfolding keyword-of numbered keywords same
+  no-headers n = ne-eqb k 39 n
