@@ -1,4 +1,3 @@
-mod Rows
 mod Closing
 mod Levels
 mod Chained

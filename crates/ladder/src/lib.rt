@@ -18,7 +18,6 @@ use rules::Mode;
 use rules::Row;
 use tape::Step;
 
-pub mod operators;
 pub mod parts;
 
 // An expression one level deeper.

@@ -9,13 +9,13 @@ use Rattle.rules.proofs.Expressions.{levels-sound, operator-pays, chain-pays, c
 use Rattle.lex.proofs.Lexes.{known, earned}
 use Rattle.tape.specs.Contract.{stepped}
 use Rattle.tape.proofs.Runs.{met, known-read}
-use Rattle.ladder.specs.Answers.{operated}
+use Rattle.operators.specs.Answers.{operated}
 use Rattle.ladder.proofs.Chained.{Chained, begun, spent, ended, stopped, on}
 use Rattle.ladder.proofs.+absolute+align+asserted+atom+branches+chain+extreme+function+grouping+ident+inner+operand+primary+rung+segment+ternary+unary.Proof.Common.{chain-at, rung-below}
 use Rattle.ladder.proofs.chain.Reads as chain
 use Rattle.ladder.proofs.rung.Reads as rung
-use Rattle.ladder.proofs.operators.most_of.Reads as most-of-reads
-use Rattle.ladder.proofs.operators.operator.Reads as operator-reads
+use Rattle.operators.proofs.most_of.Reads as most-of-reads
+use Rattle.operators.proofs.operator.Reads as operator-reads
 use Rattle.lex.proofs.Cursor.skip_blanks.Reads as skip-blanks-reads
 use Rattle.tape.proofs.push.Reads as push-reads
 use Rattle.ladder.proofs.+absolute+align+asserted+atom+branches+chain+extreme+function+grouping+ident+inner+operand+primary+rung+segment+ternary+unary.Lts-chain as lts

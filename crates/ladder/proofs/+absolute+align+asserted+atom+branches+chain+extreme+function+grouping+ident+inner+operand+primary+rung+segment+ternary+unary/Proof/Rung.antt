@@ -13,7 +13,7 @@ use Rattle.ladder.proofs.+absolute+align+asserted+atom+branches+chain+e
 use Rattle.ladder.proofs.rung.Reads as rung
 use Rattle.ladder.proofs.unary.Reads as unary
 use Rattle.ladder.proofs.chain.Reads as chain
-use Rattle.ladder.proofs.operators.row_at.Reads as row-at-reads
+use Rattle.operators.proofs.row_at.Reads as row-at-reads
 use Rattle.lex.proofs.Cursor.skip_blanks.Reads as skip-blanks-reads
 use Rattle.ladder.proofs.+absolute+align+asserted+atom+branches+chain+extreme+function+grouping+ident+inner+operand+primary+rung+segment+ternary+unary.Lts-rung as lts
 

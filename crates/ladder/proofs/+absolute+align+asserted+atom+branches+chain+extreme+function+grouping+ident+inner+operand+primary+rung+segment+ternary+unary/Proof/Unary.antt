@@ -8,12 +8,12 @@ use Rattle.rules.proofs.Expressions.{levels-sound, prefix-pays, unary-pays}
 use Rattle.lex.proofs.Lexes.{known, opt-some, opt-none, earned}
 use Rattle.tape.specs.Contract.{stepped}
 use Rattle.tape.proofs.Runs.{met, runs, known-read, bytes-then, call-then, call-stopped, added}
-use Rattle.ladder.specs.Answers.{operated}
+use Rattle.operators.specs.Answers.{operated}
 use Rattle.ladder.proofs.+absolute+align+asserted+atom+branches+chain+extreme+function+grouping+ident+inner+operand+primary+rung+segment+ternary+unary.Proof.Common.{unary-at, primary-below, operand-below}
 use Rattle.ladder.proofs.unary.Reads as unary
 use Rattle.ladder.proofs.primary.Reads as primary
 use Rattle.ladder.proofs.operand.Reads as operand
-use Rattle.ladder.proofs.operators.prefix.Reads as prefix-reads
+use Rattle.operators.proofs.prefix.Reads as prefix-reads
 use Rattle.lex.proofs.Cursor.skip_blanks.Reads as skip-blanks-reads
 use Rattle.tape.proofs.push.Reads as push-reads
 use Rattle.ladder.proofs.+absolute+align+asserted+atom+branches+chain+extreme+function+grouping+ident+inner+operand+primary+rung+segment+ternary+unary.Lts-unary as lts

@@ -1,9 +1,9 @@
 -- The second is tried where the first fails.
 use borrow.Author.Needs.{needs}
 use Rattle.lex.proofs.Lexes.{known, first, second, given}
-use Rattle.ladder.specs.Answers.{operated}
-use Rattle.ladder.proofs.operators.sign_of_two.Statement.{statement}
-use Rattle.ladder.proofs.operators.sign_of_two.Tie as tie
+use Rattle.operators.specs.Answers.{operated}
+use Rattle.operators.proofs.sign_of_two.Statement.{statement}
+use Rattle.operators.proofs.sign_of_two.Tie as tie
 
 returns : tie.Need-returns
 returns c = second (known operated (c .before .before .before .sign .ensures) (c .before .enum-told .given .1)) (c .sign2 .ensures)

@@ -1,8 +1,8 @@
 -- Each mode has its rows.
 use borrow.Author.Needs.{needs}
 use Rattle.lex.proofs.Lexes.{given}
-use Rattle.ladder.proofs.operators.row_at.Statement.{statement}
-use Rattle.ladder.proofs.operators.row_at.Tie as tie
+use Rattle.operators.proofs.row_at.Statement.{statement}
+use Rattle.operators.proofs.row_at.Tie as tie
 
 returns : tie.Need-returns
 returns c = rw (c .before .enum-told .given .1) (c .wild-row .ensures)

@@ -4,8 +4,8 @@ use borrow.Author.Needs.{needs}
 use Rattle.rules.specs.Expressions.{signed-unless}
 use Rattle.lex.specs.Contract.{read}
 use Rattle.lex.proofs.Lexes.{known, then-on, stop, given, not-tag-read, not-tag-lost}
-use Rattle.ladder.proofs.operators.sign_unless.Statement.{statement}
-use Rattle.ladder.proofs.operators.sign_unless.Tie as tie
+use Rattle.operators.proofs.sign_unless.Statement.{statement}
+use Rattle.operators.proofs.sign_unless.Tie as tie
 
 returns : tie.Need-returns
 unfolding signed-unless

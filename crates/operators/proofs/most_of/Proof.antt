@@ -1,9 +1,9 @@
 -- Every row but one may have an operator for each byte.
 use borrow.Author.Needs.{needs}
 use Rattle.lex.proofs.Lexes.{given}
-use Rattle.ladder.proofs.Rows.{not-once}
-use Rattle.ladder.proofs.operators.most_of.Statement.{statement}
-use Rattle.ladder.proofs.operators.most_of.Tie as tie
+use Rattle.operators.proofs.Rows.{not-once}
+use Rattle.operators.proofs.most_of.Statement.{statement}
+use Rattle.operators.proofs.most_of.Tie as tie
 
 returns : tie.Need-returns
 returns c = rw (c .enum-told .given .1)

@@ -6,7 +6,7 @@ ghost use lib.ListN.{drop};
 ghost use Rattle.rules.specs.Rule.{_or-else_};
 ghost use Rattle.rules.specs.Expressions.{signed, signed-unless, comparison as comparison-rule, operator as operator-of, prefix as prefix-rule, most-of, ladder};
 ghost use Rattle.lex.specs.Contract.{Lexes};
-ghost use Rattle.ladder.specs.Answers.{operated};
+ghost use Rattle.operators.specs.Answers.{operated};
 use lex::Cursor;
 use lex::Read;
 use rules::Mode;

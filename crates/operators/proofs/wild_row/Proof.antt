@@ -1,7 +1,7 @@
 -- The rows stand in this order.
-use Rattle.ladder.proofs.Rows.{ninth}
-use Rattle.ladder.proofs.operators.book_row.Statement.{statement}
-use Rattle.ladder.proofs.operators.book_row.Tie as tie
+use Rattle.operators.proofs.Rows.{ninth}
+use Rattle.operators.proofs.wild_row.Statement.{statement}
+use Rattle.operators.proofs.wild_row.Tie as tie
 
 returns : tie.Need-returns
 returns c = rw (c .match .keys1)
@@ -31,8 +31,8 @@ returns-9 : tie.Need-returns-9
 returns-9 c =
     rw (ninth (c .before .args .i) (c .before .pre) (c .match .rest .0 .0 .0 .0 .0 .0 .0 .1) (c .match .rest .0 .0 .0 .0 .0 .0 .1) (c .match .rest .0 .0 .0 .0 .0 .1) (c .match .rest .0 .0 .0 .0 .1) (c .match .rest .0 .0 .0 .1) (c .match .rest .0 .0 .1) (c .match .rest .0 .1) (c .match .rest .1))
 
-pub book-row-spec : {M : Type 1} → statement M
-book-row-spec =
+pub wild-row-spec : {M : Type 1} → statement M
+wild-row-spec =
     tie.close
     (tie.spec
     returns

@@ -1,8 +1,8 @@
 -- In each arm the row is known, and its operators were tried.
 use borrow.Author.Needs.{needs}
 use Rattle.lex.proofs.Lexes.{known, given}
-use Rattle.ladder.proofs.operators.operator.Statement.{statement}
-use Rattle.ladder.proofs.operators.operator.Tie as tie
+use Rattle.operators.proofs.operator.Statement.{statement}
+use Rattle.operators.proofs.operator.Tie as tie
 
 returns : tie.Need-returns
 returns c = rw (c .before .before .enum-told .given .1) (c .sign .ensures)

@@ -2,9 +2,9 @@
 use borrow.Author.Needs.{needs}
 use Rattle.rules.specs.Expressions.{prefix as prefix-rule}
 use Rattle.lex.proofs.Lexes.{known, first, second, given}
-use Rattle.ladder.specs.Answers.{operated}
-use Rattle.ladder.proofs.operators.prefix.Statement.{statement}
-use Rattle.ladder.proofs.operators.prefix.Tie as tie
+use Rattle.operators.specs.Answers.{operated}
+use Rattle.operators.proofs.prefix.Statement.{statement}
+use Rattle.operators.proofs.prefix.Tie as tie
 
 returns : tie.Need-returns
 unfolding prefix-rule

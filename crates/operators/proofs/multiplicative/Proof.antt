@@ -1,9 +1,9 @@
 -- The signs are tried in their order.
 use borrow.Author.Needs.{needs}
 use Rattle.lex.proofs.Lexes.{known, first, second, given}
-use Rattle.ladder.specs.Answers.{operated}
-use Rattle.ladder.proofs.operators.multiplicative.Statement.{statement}
-use Rattle.ladder.proofs.operators.multiplicative.Tie as tie
+use Rattle.operators.specs.Answers.{operated}
+use Rattle.operators.proofs.multiplicative.Statement.{statement}
+use Rattle.operators.proofs.multiplicative.Tie as tie
 
 returns : tie.Need-returns
 returns c =

@@ -3,8 +3,8 @@ use borrow.Author.Needs.{needs}
 use Rattle.rules.specs.Expressions.{signed}
 use Rattle.lex.specs.Contract.{read}
 use Rattle.lex.proofs.Lexes.{known, then-on, stop, given}
-use Rattle.ladder.proofs.operators.sign.Statement.{statement}
-use Rattle.ladder.proofs.operators.sign.Tie as tie
+use Rattle.operators.proofs.sign.Statement.{statement}
+use Rattle.operators.proofs.sign.Tie as tie
 
 returns : tie.Need-returns
 unfolding signed

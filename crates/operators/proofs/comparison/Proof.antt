@@ -2,9 +2,9 @@
 use borrow.Author.Needs.{needs}
 use Rattle.rules.specs.Expressions.{comparison as comparison-rule}
 use Rattle.lex.proofs.Lexes.{known, first, second, given}
-use Rattle.ladder.specs.Answers.{operated}
-use Rattle.ladder.proofs.operators.comparison.Statement.{statement}
-use Rattle.ladder.proofs.operators.comparison.Tie as tie
+use Rattle.operators.specs.Answers.{operated}
+use Rattle.operators.proofs.comparison.Statement.{statement}
+use Rattle.operators.proofs.comparison.Tie as tie
 
 returns : tie.Need-returns
 unfolding comparison-rule
