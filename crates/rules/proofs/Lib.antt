@@ -5,3 +5,6 @@ pub mod Pays
 pub mod Bytes
 pub mod Numbers
 pub mod Expressions
+pub mod Blind
+pub mod Independent
+pub mod Forward

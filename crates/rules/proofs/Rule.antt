@@ -16,6 +16,9 @@ not-fail e = let z : _≡_ {A = ℕ} 0 1 = cc in omega arith
 pub not-deep : {A : Type 0} {a : A} {q : ℕ} {g : Held} → deep ≡ got a q g → ⊥
 not-deep e = let z : _≡_ {A = ℕ} 0 1 = cc in omega arith
 
+pub deep-fail : {A : Type 0} → _≡_ {A = Out A} fail deep → ⊥
+deep-fail e = let z : _≡_ {A = ℕ} 0 1 = cc in omega arith
+
 -- what was read after something came from there
 pub record Came {A B : Type 0} (o : Out A) (k : A → ℕ → Held → Out B) (r : Out B) : Type 0 where
   pub value : A
