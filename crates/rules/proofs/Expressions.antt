@@ -10,7 +10,7 @@ use Rattle.rules.specs.declared.Token.{Token}
 use Rattle.rules.specs.declared.Mode.{Mode}
 use Rattle.rules.specs.declared.Row.{Row}
 use Rattle.rules.specs.declared.Row.the-variants.{LogicalOr, LogicalAnd, Comparison, Comparisons, BitwiseOr, BitwiseXor, BitwiseAnd, Shift, Additive, Multiplicative}
-use Rattle.rules.proofs.Pays.{Pays, Fine, Earns, _with-it_, _before_, _or-it_, opted-or, opted-still, either, weaker, wrong, sinks, gives, places, sized, peeks, absent, named as names, over, earns, costs}
+use Rattle.rules.proofs.Pays.{Pays, Fine, Earns, _with-it_, _before_, _or-it_, opted-or, opted-still, either, weaker, wrong, sinks, gives, places, sized, peeks, absent, named as names, over, earns, earns-two, costs}
 use Rattle.rules.proofs.Bytes.{multispace0-pays, skip-pays, token-pays, identifier-pays, segment-name-pays}
 use Rattle.rules.proofs.Numbers.{number-pays}
 
@@ -20,9 +20,13 @@ unfolding keyword
 keyword-pays t f i = names _ with-it (λ w. gives _)
 
 -- an operator reads a byte
-signed-pays : (w : List ℕ) (kind : ℕ) → 1 ≤ length w → Earns (signed w kind)
+pub signed-pays : (w : List ℕ) (kind : ℕ) → 1 ≤ length w → Earns (signed w kind)
 unfolding signed
 signed-pays w kind h f i = earns w h before gives _
+
+pub signed-two-pays : (w : List ℕ) (kind : ℕ) → 2 ≤ length w → (f i : ℕ) → Pays f i (suc (suc i)) (signed w kind)
+unfolding signed
+signed-two-pays w kind h f i = earns-two w h before gives _
 
 signed-unless-pays : (w next : List ℕ) (kind : ℕ) → 1 ≤ length w → Earns (signed-unless w next kind)
 unfolding signed-unless

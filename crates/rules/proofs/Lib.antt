@@ -8,3 +8,4 @@ pub mod Expressions
 pub mod Blind
 pub mod Independent
 pub mod Forward
+pub mod Commands

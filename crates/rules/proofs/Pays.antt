@@ -92,6 +92,11 @@ module _ {A B : Type 0} {f i j k : ℕ} where
   opted-or x y z = opted x (elim [ none ↦ y | some a ↦ z a ])
 
 module _ {A B : Type 0} {f i k : ℕ} where
+  pub perhaps-pays : (o : Option A) {n : Rule B} {g : A → Rule B} → Pays f i k n → ((a : A) → Pays f i k (g a)) → Pays f i k (perhaps o n g)
+  unfolding perhaps
+  perhaps-pays none x y = x
+  perhaps-pays (some a) x y = y a
+
   -- opt of a rule that leaves what there was
   pub opted-still : {m : Rule A} {n : Option A → Rule B} → Pays f i i m → ((o : Option A) → Pays f i k (n o)) → Pays f i k (opt m >>= n)
   opted-still x y = opted x (elim [ none ↦ y none | some a ↦ y (some a) ])
@@ -133,10 +138,10 @@ module _ {A : Type 0} {f i j : ℕ} where
       go s p h deep t u v z = record { never = omega arith; paid = tt }
 
 -- RULES OF ONE MOMENT: they hold what was held, and where they read on they came to a place further on
-passed : (f i : ℕ) {A : Type 0} {x : A} (s : List ℕ) (p q j : ℕ) (h : Held) → f ≤ h .count → h .count + i ≤ p → p ≤ q → q ≤ max p (length s) → h .count + j ≤ q → Fair s f p j (got x q h) (h .count)
+pub passed : (f i : ℕ) {A : Type 0} {x : A} (s : List ℕ) (p q j : ℕ) (h : Held) → f ≤ h .count → h .count + i ≤ p → p ≤ q → q ≤ max p (length s) → h .count + j ≤ q → Fair s f p j (got x q h) (h .count)
 passed f i s p q j h a b c d e = record { never = omega arith; paid = record { on = c; inside = d; floor = a; few = e } }
 
-refused : (f i : ℕ) {A : Type 0} (s : List ℕ) (p j : ℕ) (h : Held) → h .count + i ≤ p → Fair {A = A} s f p j fail (h .count)
+pub refused : (f i : ℕ) {A : Type 0} (s : List ℕ) (p j : ℕ) (h : Held) → h .count + i ≤ p → Fair {A = A} s f p j fail (h .count)
 refused f i s p j h b = record { never = omega arith; paid = tt }
 
 module _ {f i : ℕ} where
@@ -234,6 +239,11 @@ module _ {f i : ℕ} where
   pub returns : Pays f i i (back f)
   unfolding back
   returns = record { fair = λ s p h a b. record { never = omega arith; paid = record { on = omega arith; inside = omega arith; floor = omega arith; few = omega arith } } }
+
+-- a rule that may stand here is read over
+pub opt-over : {A : Type 0} {f i : ℕ} {m : Rule A} → Pays f i i m → Pays f i i (opt m)
+unfolding opt
+opt-over x = (x with-it (λ a. gives (some a))) or-it gives none
 
 -- REPETITION
 module _ {A : Type 0} {item : Rule A} {end : Rule (Unit {0})} {f i : ℕ} (x : Pays f i i item) (y : Pays f i i end) where

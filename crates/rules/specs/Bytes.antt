@@ -76,6 +76,9 @@ skip-comments-and-whitespace = do
   n ← size
   skipping (suc n)
 
+abbrev pub skip : Rule (Unit {0})
+skip = skip-comments-and-whitespace
+
 unfoldable pub token : Rule Token
 token = do
   quoted ← starts "\""

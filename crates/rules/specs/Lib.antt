@@ -5,3 +5,7 @@ pub mod Bytes
 pub mod Keywords
 pub mod Numbers
 pub mod Expressions
+pub mod Assignments
+pub mod Contents
+pub mod Sections
+pub mod Commands
