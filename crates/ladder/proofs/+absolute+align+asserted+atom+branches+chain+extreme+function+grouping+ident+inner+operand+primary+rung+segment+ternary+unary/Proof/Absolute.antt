@@ -1,12 +1,17 @@
--- An expression in a bracket.
+-- An expression in a bracket, which pays for the record.
 use Prim.Native.Nat.{ℕ}
 use native.Mathlib.Omega.{arith}
+use mathlib.Core.Path.{refl, _∙_}
+use mathlib.Core.List.{List}
 use Rattle.rules.specs.Expressions as rule
+use Rattle.rules.specs.Expressions.{levels}
 use Rattle.rules.proofs.Expressions.{levels-sound, absolute-pays}
 use Rattle.lex.specs.Contract.{read}
 use Rattle.lex.proofs.Lexes.{known}
 use Rattle.tape.specs.Contract.{stepped}
-use Rattle.tape.proofs.Runs.{met, runs, known-read, bytes-then, bytes-stop, call-then, call-stopped}
+use Rattle.tape.proofs.Runs.{runs, known-read}
+use Rattle.tape.proofs.Way.{Way, enter, bytes, called, lost-here, ends-here, stops-here}
+use Rattle.lex.specs.declared.Cursor.{Cursor}
 use Rattle.ladder.proofs.+absolute+align+asserted+atom+branches+chain+extreme+function+grouping+ident+inner+operand+primary+rung+segment+ternary+unary.Proof.Common.{absolute-at, inner-below}
 use Rattle.ladder.proofs.absolute.Reads as absolute
 use Rattle.ladder.proofs.inner.Reads as inner
@@ -21,49 +26,52 @@ callees t =
     (word-reads.Asked, word-reads.Learnt, skip-blanks-reads.Asked, skip-blanks-reads.Learnt, inner-below t, inner.Post, close-reads.Asked, close-reads.Learnt)
 
 module _ (t : ℕ) where
+  -- the way to a place, with so many bytes that have no record yet
+  abbrev Along : lts.Start (callees t) (absolute-at t) absolute.Post → ℕ → List ℕ → Cursor → Type 0
+  Along c = Way (rule.absolute (levels (c .args .mode) (c .args .left))) (c .args .script .now) (c .args .tape .now) (c .args .c)
+
+  abbrev at-opened : (c : lts.After-opened (callees t) (absolute-at t) absolute.Post) → let start = c .before .before .before .before .before .before in Along (c .before .before .before .before .before .before) 0 (start .args .tape .now) (c .opened .given .0 .0)
+  unfolding rule.absolute
+  at-opened c =
+      let start = c .before .before .before .before .before .before in
+      bytes _ (enter (absolute-pays (levels-sound (start .args .mode) (start .args .left))) (start .pre .1)) refl (known read (c .before .before .word .ensures) (c .opened .given .1))
+
+  abbrev at-skip-blanks : (c : lts.After-skip-blanks (callees t) (absolute-at t) absolute.Post) → let start = c .before .before .before .before .before .before .before .before .before in Along (c .before .before .before .before .before .before .before .before .before) 0 (start .args .tape .now) (c .skip-blanks .result)
+  unfolding rule.absolute
+  at-skip-blanks c = bytes _ (at-opened (c .before .before .before)) refl (c .skip-blanks .ensures)
+
+  abbrev at-value : (c : lts.After-value (callees t) (absolute-at t) absolute.Post) → let inner = c .before .before .before .before .inner in Along (c .before .before .before .before .before .before .before .before .before .before .before .before .before .before) 0 (inner .last .1 .0) (c .value .given .0 .0)
+  unfolding rule.absolute
+  at-value c =
+      let inner = c .before .before .before .before .inner in
+      called _ (at-skip-blanks (c .before .before .before .before .before)) refl (known-read stepped (inner .ensures) (c .value .given .1)) (inner .kept .1 .0)
+
   pub returns : lts.Need-returns (callees t) (absolute-at t) absolute.Post
   unfolding rule.absolute
   returns c =
       let start = c .before .before .before .before .before .before in
-      met (absolute-pays (levels-sound (start .args .mode) (start .args .left))) (start .pre .1) (bytes-stop _ (known read (c .before .before .word .ensures) (c .enum-told .given .1)))
+      lost-here _ (enter (absolute-pays (levels-sound (start .args .mode) (start .args .left))) (start .pre .1)) refl (known read (c .before .before .word .ensures) (c .enum-told .given .1))
 
   pub inner-requires : lts.Need-inner-requires (callees t) (absolute-at t) absolute.Post
   inner-requires c κs =
       let start = c .before .before .before .before .before .before .before .before .before in
-      let word = c .before .before .before .before .before .word in
-      omega (arith, start .pre, (known read (word .ensures) (c .before .before .before .opened .given .1)) .moved, c .skip-blanks .ensures .moved)
+      (omega (arith, start .pre .0), (at-skip-blanks c) .room)
+
+  pub same-length : lts.Need-same-length (callees t) (absolute-at t) absolute.Post
+  same-length c = c .before .before .before .inner .kept .1 .0 ∙ (at-skip-blanks (c .before .before .before .before)) .size
 
   pub returns-2 : lts.Need-returns-2 (callees t) (absolute-at t) absolute.Post
   unfolding rule.absolute
   returns-2 c =
-      let start = c .before .before .before .before .before .before .before .before .before .before .before .before .before in
-      let word = c .before .before .before .before .before .before .before .before .before .word in
-      let opened = c .before .before .before .before .before .before .before .opened in
-      let skip-blanks = c .before .before .before .before .skip-blanks in
       let inner = c .before .before .before .inner in
-      met (absolute-pays (levels-sound (start .args .mode) (start .args .left))) (start .pre .1) (bytes-then _ (known read (word .ensures) (opened .given .1))
-      (bytes-then _ (skip-blanks .ensures)
-      (call-stopped _ (inner .result) (inner .ensures) (c .match2 .keys2))))
+      stops-here _ (at-skip-blanks (c .before .before .before .before)) refl (inner .result) (inner .ensures) (c .match2 .keys2)
 
   pub close-requires : lts.Need-close-requires (callees t) (absolute-at t) absolute.Post
-  close-requires c κs =
-      let start = c .before .before .before .before .before .before .before .before .before .before .before .before .before .before .before .before in
-      let word = c .before .before .before .before .before .before .before .before .before .before .before .before .word in
-      let opened = c .before .before .before .before .before .before .before .before .before .before .opened in
-      let skip-blanks = c .before .before .before .before .before .before .before .skip-blanks in
-      let inner = c .before .before .before .before .before .before .inner in
-      omega (arith, start .pre, (known read (word .ensures) (opened .given .1)) .moved, skip-blanks .ensures .moved, (known-read stepped (inner .ensures) (c .before .before .value .given .1)) .came, inner .kept .1 .0)
+  close-requires c κs = (at-value (c .before .before)) .room
+
+  pub same-length-2 : lts.Need-same-length-2 (callees t) (absolute-at t) absolute.Post
+  same-length-2 c = c .before .before .close .kept .1 .0 ∙ (at-value (c .before .before .before .before .before)) .size
 
   pub returns-3 : lts.Need-returns-3 (callees t) (absolute-at t) absolute.Post
   unfolding rule.absolute
-  returns-3 c =
-      let start = c .before .before .before .before .before .before .before .before .before .before .before .before .before .before .before .before .before .before .before in
-      let word = c .before .before .before .before .before .before .before .before .before .before .before .before .before .before .before .word in
-      let opened = c .before .before .before .before .before .before .before .before .before .before .before .before .before .opened in
-      let skip-blanks = c .before .before .before .before .before .before .before .before .before .before .skip-blanks in
-      let inner = c .before .before .before .before .before .before .before .before .before .inner in
-      let value = c .before .before .before .before .before .value in
-      met (absolute-pays (levels-sound (start .args .mode) (start .args .left))) (start .pre .1) (bytes-then _ (known read (word .ensures) (opened .given .1))
-      (bytes-then _ (skip-blanks .ensures)
-      (call-then _ (known-read stepped (inner .ensures) (value .given .1))
-      (runs (c .before .before .close .ensures)))))
+  returns-3 c = ends-here (at-value (c .before .before .before .before .before)) (runs (c .before .before .close .ensures))

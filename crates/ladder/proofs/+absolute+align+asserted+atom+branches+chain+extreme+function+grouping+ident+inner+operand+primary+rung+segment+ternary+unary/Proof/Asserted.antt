@@ -1,13 +1,17 @@
--- An expression and a message in a bracket.
-use Prim.Native.Nat.{ℕ, _+_, _*_, _≤_}
+-- An expression and a message in a bracket; the message pays for the record.
+use Prim.Native.Nat.{ℕ}
 use native.Mathlib.Omega.{arith}
-use lib.ListN.{length}
+use mathlib.Core.Path.{refl, _∙_}
+use mathlib.Core.List.{List}
 use Rattle.rules.specs.Expressions as rule
+use Rattle.rules.specs.Expressions.{levels}
 use Rattle.rules.proofs.Expressions.{levels-sound, assert-message-pays, assert-pays}
 use Rattle.lex.specs.Contract.{read, taken}
-use Rattle.lex.proofs.Lexes.{known, earned, here-at}
+use Rattle.lex.proofs.Lexes.{known, here-at}
 use Rattle.tape.specs.Contract.{stepped}
-use Rattle.tape.proofs.Runs.{met, known-read, bytes-then, bytes-stop, call-then, call-stopped, added}
+use Rattle.tape.proofs.Runs.{known-read, added}
+use Rattle.tape.proofs.Way.{Way, enter, bytes, earning, called, can-push, lost-here, ends-here, stops-here}
+use Rattle.lex.specs.declared.Cursor.{Cursor}
 use Rattle.ladder.proofs.+absolute+align+asserted+atom+branches+chain+extreme+function+grouping+ident+inner+operand+primary+rung+segment+ternary+unary.Proof.Common.{asserted-at, inner-below}
 use Rattle.ladder.proofs.asserted.Reads as asserted
 use Rattle.ladder.proofs.inner.Reads as inner
@@ -23,90 +27,69 @@ callees t =
     (word-reads.Asked, word-reads.Learnt, skip-reads.Asked, skip-reads.Learnt, inner-below t, inner.Post, message-reads.Asked, message-reads.Learnt, push-reads.Asked, push-reads.Learnt)
 
 module _ (t : ℕ) where
-  room : (c : lts.After-text (callees t) (asserted-at t) asserted.Post) → let inner = c .before .before .before .before .before .before .before .before .inner in 5 * c .text .given .0 .1 .0 .count + 5 ≤ length (inner .last .1 .0)
-  room c =
-      let start = c .before .before .before .before .before .before .before .before .before .before .before .before .before .before .before .before .before .before .before .before .before in
-      let word = c .before .before .before .before .before .before .before .before .before .before .before .before .before .before .before .before .before .word in
-      let opened = c .before .before .before .before .before .before .before .before .before .before .before .before .before .before .before .opened in
-      let skip = c .before .before .before .before .before .before .before .before .before .before .before .before .before .skip in
-      let blanks = c .before .before .before .before .before .before .before .before .before .before .before .blanks in
-      let inner = c .before .before .before .before .before .before .before .before .inner in
-      let value = c .before .before .before .before .value in
-      let message = c .before .before .message in
-      omega (arith, start .pre, (known read (word .ensures) (opened .given .1)) .moved, (known read (skip .ensures) (blanks .given .1)) .moved, (known-read stepped (inner .ensures) (value .given .1)) .came, inner .kept .1 .0, (known taken (message .ensures) (c .text .given .1)) .moved, earned assert-message-pays (known taken (message .ensures) (c .text .given .1)))
+  -- the way to a place, with so many bytes that have no record yet
+  abbrev Along : lts.Start (callees t) (asserted-at t) asserted.Post → ℕ → List ℕ → Cursor → Type 0
+  Along c = Way (rule.assert 39 ((levels (c .args .mode) (c .args .left)) .expressions)) (c .args .script .now) (c .args .tape .now) (c .args .c)
+
+  abbrev at-opened : (c : lts.After-opened (callees t) (asserted-at t) asserted.Post) → let start = c .before .before .before .before .before .before in Along (c .before .before .before .before .before .before) 0 (start .args .tape .now) (c .opened .given .0 .0)
+  unfolding rule.assert
+  at-opened c =
+      let start = c .before .before .before .before .before .before in
+      bytes _ (bytes _ (enter (assert-pays 39 ((levels-sound (start .args .mode) (start .args .left)) .expressions)) (start .pre .1)) refl (here-at)) refl (known read (c .before .before .word .ensures) (c .opened .given .1))
+
+  abbrev at-blanks : (c : lts.After-blanks (callees t) (asserted-at t) asserted.Post) → let start = c .before .before .before .before .before .before .before .before .before .before in Along (c .before .before .before .before .before .before .before .before .before .before) 0 (start .args .tape .now) (c .blanks .given .0 .0)
+  unfolding rule.assert
+  at-blanks c = bytes _ (at-opened (c .before .before .before .before)) refl (known read (c .before .before .skip .ensures) (c .blanks .given .1))
+
+  abbrev at-value : (c : lts.After-value (callees t) (asserted-at t) asserted.Post) → let inner = c .before .before .before .before .inner in Along (c .before .before .before .before .before .before .before .before .before .before .before .before .before .before .before .before .before) 0 (inner .last .1 .0) (c .value .given .0 .0)
+  unfolding rule.assert
+  at-value c =
+      let inner = c .before .before .before .before .inner in
+      called _ (at-blanks (c .before .before .before .before .before .before .before)) refl (known-read stepped (inner .ensures) (c .value .given .1)) (inner .kept .1 .0)
+
+  abbrev at-text : (c : lts.After-text (callees t) (asserted-at t) asserted.Post) → let inner = c .before .before .before .before .before .before .before .before .inner in Along (c .before .before .before .before .before .before .before .before .before .before .before .before .before .before .before .before .before .before .before .before .before) 1 (inner .last .1 .0) (c .text .given .0 .1 .0)
+  unfolding rule.assert
+  at-text c = earning _ assert-message-pays (at-value (c .before .before .before .before)) refl (known taken (c .before .before .message .ensures) (c .text .given .1))
 
   pub returns : lts.Need-returns (callees t) (asserted-at t) asserted.Post
   unfolding rule.assert
   returns c =
       let start = c .before .before .before .before .before .before in
-      met (assert-pays 39 ((levels-sound (start .args .mode) (start .args .left)) .expressions)) (start .pre .1) (bytes-then _ (here-at)
-      (bytes-stop _ (known read (c .before .before .word .ensures) (c .enum-told .given .1))))
+      lost-here _ (bytes _ (enter (assert-pays 39 ((levels-sound (start .args .mode) (start .args .left)) .expressions)) (start .pre .1)) refl (here-at)) refl (known read (c .before .before .word .ensures) (c .enum-told .given .1))
 
   pub returns-2 : lts.Need-returns-2 (callees t) (asserted-at t) asserted.Post
   unfolding rule.assert
-  returns-2 c =
-      let start = c .before .before .before .before .before .before .before .before .before .before in
-      let word = c .before .before .before .before .before .before .word in
-      let opened = c .before .before .before .before .opened in
-      met (assert-pays 39 ((levels-sound (start .args .mode) (start .args .left)) .expressions)) (start .pre .1) (bytes-then _ (here-at)
-      (bytes-then _ (known read (word .ensures) (opened .given .1))
-      (bytes-stop _ (known read (c .before .before .skip .ensures) (c .enum-told2 .given .1)))))
+  returns-2 c = lost-here _ (at-opened (c .before .before .before .before)) refl (known read (c .before .before .skip .ensures) (c .enum-told2 .given .1))
 
   pub inner-requires : lts.Need-inner-requires (callees t) (asserted-at t) asserted.Post
   inner-requires c κs =
       let start = c .before .before .before .before .before .before .before .before .before .before .before .before in
-      let word = c .before .before .before .before .before .before .before .before .word in
-      let opened = c .before .before .before .before .before .before .opened in
-      omega (arith, start .pre, (known read (word .ensures) (opened .given .1)) .moved, (known read (c .before .before .before .before .skip .ensures) (c .before .before .blanks .given .1)) .moved)
+      (omega (arith, start .pre .0), (at-blanks (c .before .before)) .room)
+
+  pub same-length : lts.Need-same-length (callees t) (asserted-at t) asserted.Post
+  same-length c = c .before .before .before .inner .kept .1 .0 ∙ (at-blanks (c .before .before .before .before .before .before)) .size
 
   pub returns-3 : lts.Need-returns-3 (callees t) (asserted-at t) asserted.Post
   unfolding rule.assert
   returns-3 c =
-      let start = c .before .before .before .before .before .before .before .before .before .before .before .before .before .before .before .before in
-      let word = c .before .before .before .before .before .before .before .before .before .before .before .before .word in
-      let opened = c .before .before .before .before .before .before .before .before .before .before .opened in
-      let skip = c .before .before .before .before .before .before .before .before .skip in
-      let blanks = c .before .before .before .before .before .before .blanks in
       let inner = c .before .before .before .inner in
-      met (assert-pays 39 ((levels-sound (start .args .mode) (start .args .left)) .expressions)) (start .pre .1) (bytes-then _ (here-at)
-      (bytes-then _ (known read (word .ensures) (opened .given .1))
-      (bytes-then _ (known read (skip .ensures) (blanks .given .1))
-      (call-stopped _ (inner .result) (inner .ensures) (c .match3 .keys2)))))
+      stops-here _ (at-blanks (c .before .before .before .before .before .before)) refl (inner .result) (inner .ensures) (c .match3 .keys2)
+
+  pub same-length-2 : lts.Need-same-length-2 (callees t) (asserted-at t) asserted.Post
+  same-length-2 c = (at-value (c .before .before .before .before)) .size
 
   pub returns-4 : lts.Need-returns-4 (callees t) (asserted-at t) asserted.Post
   unfolding rule.assert
   returns-4 c =
-      let start = c .before .before .before .before .before .before .before .before .before .before .before .before .before .before .before .before .before .before .before .before .before in
-      let word = c .before .before .before .before .before .before .before .before .before .before .before .before .before .before .before .before .before .word in
-      let opened = c .before .before .before .before .before .before .before .before .before .before .before .before .before .before .before .opened in
-      let skip = c .before .before .before .before .before .before .before .before .before .before .before .before .before .skip in
-      let blanks = c .before .before .before .before .before .before .before .before .before .before .before .blanks in
-      let inner = c .before .before .before .before .before .before .before .before .inner in
-      let value = c .before .before .before .before .value in
-      met (assert-pays 39 ((levels-sound (start .args .mode) (start .args .left)) .expressions)) (start .pre .1) (bytes-then _ (here-at)
-      (bytes-then _ (known read (word .ensures) (opened .given .1))
-      (bytes-then _ (known read (skip .ensures) (blanks .given .1))
-      (call-then _ (known-read stepped (inner .ensures) (value .given .1))
-      (bytes-stop _ (known taken (c .before .before .message .ensures) (c .enum-told3 .given .1)))))))
+      lost-here _ (at-value (c .before .before .before .before)) refl (known taken (c .before .before .message .ensures) (c .enum-told3 .given .1))
 
   pub push-requires : lts.Need-push-requires (callees t) (asserted-at t) asserted.Post
-  push-requires c κs = room (c .before .before)
+  push-requires c κs = can-push (at-text (c .before .before))
+
+  pub same-length-3 : lts.Need-same-length-3 (callees t) (asserted-at t) asserted.Post
+  same-length-3 c = c .before .before .push .kept .0 ∙ (at-text (c .before .before .before .before .before)) .size
 
   pub returns-5 : lts.Need-returns-5 (callees t) (asserted-at t) asserted.Post
   unfolding rule.assert
   returns-5 c =
-      let start = c .before .before .before .before .before .before .before .before .before .before .before .before .before .before .before .before .before .before .before .before .before .before .before .before .before .before in
-      let word = c .before .before .before .before .before .before .before .before .before .before .before .before .before .before .before .before .before .before .before .before .before .before .word in
-      let opened = c .before .before .before .before .before .before .before .before .before .before .before .before .before .before .before .before .before .before .before .before .opened in
-      let skip = c .before .before .before .before .before .before .before .before .before .before .before .before .before .before .before .before .before .before .skip in
-      let blanks = c .before .before .before .before .before .before .before .before .before .before .before .before .before .before .before .before .blanks in
-      let inner = c .before .before .before .before .before .before .before .before .before .before .before .before .before .inner in
-      let value = c .before .before .before .before .before .before .before .before .before .value in
-      let message = c .before .before .before .before .before .before .before .message in
-      let text = c .before .before .before .before .before .text in
-      met (assert-pays 39 ((levels-sound (start .args .mode) (start .args .left)) .expressions)) (start .pre .1) (bytes-then _ (here-at)
-      (bytes-then _ (known read (word .ensures) (opened .given .1))
-      (bytes-then _ (known read (skip .ensures) (blanks .given .1))
-      (call-then _ (known-read stepped (inner .ensures) (value .given .1))
-      (bytes-then _ (known taken (message .ensures) (text .given .1))
-      (added _ _ _ _ _ (c .before .before .push .ensures) (room (c .before .before .before .before .before))))))))
+      ends-here (at-text (c .before .before .before .before .before)) (added _ _ _ _ _ (c .before .before .push .ensures) (can-push (at-text (c .before .before .before .before .before))))

@@ -1,13 +1,17 @@
--- Two expressions in a bracket.
+-- Two expressions in a bracket, which pays for the record.
 use Prim.Native.Nat.{ℕ}
 use native.Mathlib.Omega.{arith}
-use mathlib.Core.Path.{_∙_}
+use mathlib.Core.Path.{refl, _∙_}
+use mathlib.Core.List.{List}
 use Rattle.rules.specs.Expressions as rule
+use Rattle.rules.specs.Expressions.{levels}
 use Rattle.rules.proofs.Expressions.{levels-sound, least-or-greatest-pays}
 use Rattle.lex.specs.Contract.{read}
 use Rattle.lex.proofs.Lexes.{known}
 use Rattle.tape.specs.Contract.{stepped}
-use Rattle.tape.proofs.Runs.{met, runs, known-read, bytes-then, bytes-stop, call-then, call-stopped}
+use Rattle.tape.proofs.Runs.{runs, known-read}
+use Rattle.tape.proofs.Way.{Way, enter, bytes, called, lost-here, ends-here, stops-here}
+use Rattle.lex.specs.declared.Cursor.{Cursor}
 use Rattle.ladder.proofs.+absolute+align+asserted+atom+branches+chain+extreme+function+grouping+ident+inner+operand+primary+rung+segment+ternary+unary.Proof.Common.{extreme-at, inner-below}
 use Rattle.ladder.proofs.extreme.Reads as extreme
 use Rattle.ladder.proofs.inner.Reads as inner
@@ -22,115 +26,88 @@ callees t =
     (word-reads.Asked, word-reads.Learnt, inner-below t, inner.Post, skip-blanks-reads.Asked, skip-blanks-reads.Learnt, close-reads.Asked, close-reads.Learnt)
 
 module _ (t : ℕ) where
+  -- the way to a place, with so many bytes that have no record yet
+  abbrev Along : lts.Start (callees t) (extreme-at t) extreme.Post → ℕ → List ℕ → Cursor → Type 0
+  Along c = Way (rule.least-or-greatest (levels (c .args .mode) (c .args .left)) (c .args .kind)) (c .args .script .now) (c .args .tape .now) (c .args .c)
+
+  abbrev at-opened : (c : lts.After-opened (callees t) (extreme-at t) extreme.Post) → let start = c .before .before .before .before .before .before in Along (c .before .before .before .before .before .before) 0 (start .args .tape .now) (c .opened .given .0 .0)
+  unfolding rule.least-or-greatest
+  at-opened c =
+      let start = c .before .before .before .before .before .before in
+      bytes _ (enter (least-or-greatest-pays (levels-sound (start .args .mode) (start .args .left)) _) (start .pre .1)) refl (known read (c .before .before .word .ensures) (c .opened .given .1))
+
+  abbrev at-one : (c : lts.After-one (callees t) (extreme-at t) extreme.Post) → let inner = c .before .before .before .before .inner in Along (c .before .before .before .before .before .before .before .before .before .before .before .before .before) 0 (inner .last .1 .0) (c .one .given .0 .0)
+  unfolding rule.least-or-greatest
+  at-one c =
+      let inner = c .before .before .before .before .inner in
+      called _ (at-opened (c .before .before .before .before .before .before .before)) refl (known-read stepped (inner .ensures) (c .one .given .1)) (inner .kept .1 .0)
+
+  abbrev at-skip-blanks : (c : lts.After-skip-blanks (callees t) (extreme-at t) extreme.Post) → let inner = c .before .before .before .before .before .before .inner in Along (c .before .before .before .before .before .before .before .before .before .before .before .before .before .before .before) 0 (inner .last .1 .0) (c .skip-blanks .result)
+  unfolding rule.least-or-greatest
+  at-skip-blanks c = bytes _ (at-one (c .before .before)) refl (c .skip-blanks .ensures)
+
+  abbrev at-comma : (c : lts.After-comma (callees t) (extreme-at t) extreme.Post) → let inner = c .before .before .before .before .before .before .before .before .before .before .inner in Along (c .before .before .before .before .before .before .before .before .before .before .before .before .before .before .before .before .before .before .before) 0 (inner .last .1 .0) (c .comma .given .0 .0)
+  unfolding rule.least-or-greatest
+  at-comma c = bytes _ (at-skip-blanks (c .before .before .before .before)) refl (known read (c .before .before .word2 .ensures) (c .comma .given .1))
+
+  abbrev at-skip-blanks2 : (c : lts.After-skip-blanks2 (callees t) (extreme-at t) extreme.Post) → let inner = c .before .before .before .before .before .before .before .before .before .before .before .before .before .inner in Along (c .before .before .before .before .before .before .before .before .before .before .before .before .before .before .before .before .before .before .before .before .before .before) 0 (inner .last .1 .0) (c .skip-blanks2 .result)
+  unfolding rule.least-or-greatest
+  at-skip-blanks2 c = bytes _ (at-comma (c .before .before .before)) refl (c .skip-blanks2 .ensures)
+
+  abbrev at-two : (c : lts.After-two (callees t) (extreme-at t) extreme.Post) → let inner2 = c .before .before .before .before .inner2 in Along (c .before .before .before .before .before .before .before .before .before .before .before .before .before .before .before .before .before .before .before .before .before .before .before .before .before .before .before) 0 (inner2 .last .1 .0) (c .two .given .0 .0)
+  unfolding rule.least-or-greatest
+  at-two c =
+      let inner2 = c .before .before .before .before .inner2 in
+      called _ (at-skip-blanks2 (c .before .before .before .before .before)) refl (known-read stepped (inner2 .ensures) (c .two .given .1)) (inner2 .kept .1 .0)
+
   pub returns : lts.Need-returns (callees t) (extreme-at t) extreme.Post
   unfolding rule.least-or-greatest
   returns c =
       let start = c .before .before .before .before .before .before in
-      met (least-or-greatest-pays (levels-sound (start .args .mode) (start .args .left)) _) (start .pre .1) (bytes-stop _ (known read (c .before .before .word .ensures) (c .enum-told .given .1)))
+      lost-here _ (enter (least-or-greatest-pays (levels-sound (start .args .mode) (start .args .left)) _) (start .pre .1)) refl (known read (c .before .before .word .ensures) (c .enum-told .given .1))
 
   pub inner-requires : lts.Need-inner-requires (callees t) (extreme-at t) extreme.Post
   inner-requires c κs =
       let start = c .before .before .before .before .before .before .before .before in
-      omega (arith, start .pre, (known read (c .before .before .before .before .word .ensures) (c .before .before .opened .given .1)) .moved)
+      (omega (arith, start .pre .0), (at-opened (c .before .before)) .room)
+
+  pub same-length : lts.Need-same-length (callees t) (extreme-at t) extreme.Post
+  same-length c = c .before .before .before .inner .kept .1 .0 ∙ (at-opened (c .before .before .before .before .before .before)) .size
 
   pub returns-2 : lts.Need-returns-2 (callees t) (extreme-at t) extreme.Post
   unfolding rule.least-or-greatest
   returns-2 c =
-      let start = c .before .before .before .before .before .before .before .before .before .before .before .before in
-      let word = c .before .before .before .before .before .before .before .before .word in
-      let opened = c .before .before .before .before .before .before .opened in
       let inner = c .before .before .before .inner in
-      met (least-or-greatest-pays (levels-sound (start .args .mode) (start .args .left)) _) (start .pre .1) (bytes-then _ (known read (word .ensures) (opened .given .1))
-      (call-stopped _ (inner .result) (inner .ensures) (c .match2 .keys2)))
+      stops-here _ (at-opened (c .before .before .before .before .before .before)) refl (inner .result) (inner .ensures) (c .match2 .keys2)
+
+  pub same-length-2 : lts.Need-same-length-2 (callees t) (extreme-at t) extreme.Post
+  same-length-2 c = (at-skip-blanks (c .before .before .before .before)) .size
 
   pub returns-3 : lts.Need-returns-3 (callees t) (extreme-at t) extreme.Post
   unfolding rule.least-or-greatest
   returns-3 c =
-      let start = c .before .before .before .before .before .before .before .before .before .before .before .before .before .before .before .before .before .before .before in
-      let word = c .before .before .before .before .before .before .before .before .before .before .before .before .before .before .before .word in
-      let opened = c .before .before .before .before .before .before .before .before .before .before .before .before .before .opened in
-      let inner = c .before .before .before .before .before .before .before .before .before .before .inner in
-      let one = c .before .before .before .before .before .before .one in
-      let skip-blanks = c .before .before .before .before .skip-blanks in
-      met (least-or-greatest-pays (levels-sound (start .args .mode) (start .args .left)) _) (start .pre .1) (bytes-then _ (known read (word .ensures) (opened .given .1))
-      (call-then _ (known-read stepped (inner .ensures) (one .given .1))
-      (bytes-then _ (skip-blanks .ensures)
-      (bytes-stop _ (known read (c .before .before .word2 .ensures) (c .enum-told2 .given .1))))))
+      lost-here _ (at-skip-blanks (c .before .before .before .before)) refl (known read (c .before .before .word2 .ensures) (c .enum-told2 .given .1))
 
   pub inner-requires-2 : lts.Need-inner-requires-2 (callees t) (extreme-at t) extreme.Post
   inner-requires-2 c κs =
       let start = c .before .before .before .before .before .before .before .before .before .before .before .before .before .before .before .before .before .before .before .before .before .before in
-      let word = c .before .before .before .before .before .before .before .before .before .before .before .before .before .before .before .before .before .before .word in
-      let opened = c .before .before .before .before .before .before .before .before .before .before .before .before .before .before .before .before .opened in
-      let inner = c .before .before .before .before .before .before .before .before .before .before .before .before .before .inner in
-      let one = c .before .before .before .before .before .before .before .before .before .one in
-      let skip-blanks = c .before .before .before .before .before .before .before .skip-blanks in
-      let word2 = c .before .before .before .before .before .word2 in
-      omega (arith, start .pre, (known read (word .ensures) (opened .given .1)) .moved, (known-read stepped (inner .ensures) (one .given .1)) .came, inner .kept .1 .0, skip-blanks .ensures .moved, (known read (word2 .ensures) (c .before .before .before .comma .given .1)) .moved, c .skip-blanks2 .ensures .moved)
+      (omega (arith, start .pre .0), (at-skip-blanks2 c) .room)
 
   pub same-length-3 : lts.Need-same-length-3 (callees t) (extreme-at t) extreme.Post
-  same-length-3 c =
-      let inner = c .before .before .before .before .before .before .before .before .before .before .before .before .before .before .before .before .before .inner in
-      c .before .before .before .inner2 .kept .1 .0 ∙ inner .kept .1 .0
+  same-length-3 c = c .before .before .before .inner2 .kept .1 .0 ∙ (at-skip-blanks2 (c .before .before .before .before)) .size
 
   pub returns-4 : lts.Need-returns-4 (callees t) (extreme-at t) extreme.Post
   unfolding rule.least-or-greatest
   returns-4 c =
-      let start = c .before .before .before .before .before .before .before .before .before .before .before .before .before .before .before .before .before .before .before .before .before .before .before .before .before .before in
-      let word = c .before .before .before .before .before .before .before .before .before .before .before .before .before .before .before .before .before .before .before .before .before .before .word in
-      let opened = c .before .before .before .before .before .before .before .before .before .before .before .before .before .before .before .before .before .before .before .before .opened in
-      let inner = c .before .before .before .before .before .before .before .before .before .before .before .before .before .before .before .before .before .inner in
-      let one = c .before .before .before .before .before .before .before .before .before .before .before .before .before .one in
-      let skip-blanks = c .before .before .before .before .before .before .before .before .before .before .before .skip-blanks in
-      let word2 = c .before .before .before .before .before .before .before .before .before .word2 in
-      let comma = c .before .before .before .before .before .before .before .comma in
-      let skip-blanks2 = c .before .before .before .before .skip-blanks2 in
       let inner2 = c .before .before .before .inner2 in
-      met (least-or-greatest-pays (levels-sound (start .args .mode) (start .args .left)) _) (start .pre .1) (bytes-then _ (known read (word .ensures) (opened .given .1))
-      (call-then _ (known-read stepped (inner .ensures) (one .given .1))
-      (bytes-then _ (skip-blanks .ensures)
-      (bytes-then _ (known read (word2 .ensures) (comma .given .1))
-      (bytes-then _ (skip-blanks2 .ensures)
-      (call-stopped _ (inner2 .result) (inner2 .ensures) (c .match4 .keys2)))))))
+      stops-here _ (at-skip-blanks2 (c .before .before .before .before)) refl (inner2 .result) (inner2 .ensures) (c .match4 .keys2)
 
   pub close-requires : lts.Need-close-requires (callees t) (extreme-at t) extreme.Post
-  close-requires c κs =
-      let start = c .before .before .before .before .before .before .before .before .before .before .before .before .before .before .before .before .before .before .before .before .before .before .before .before .before .before .before .before .before in
-      let word = c .before .before .before .before .before .before .before .before .before .before .before .before .before .before .before .before .before .before .before .before .before .before .before .before .before .word in
-      let opened = c .before .before .before .before .before .before .before .before .before .before .before .before .before .before .before .before .before .before .before .before .before .before .before .opened in
-      let inner = c .before .before .before .before .before .before .before .before .before .before .before .before .before .before .before .before .before .before .before .before .inner in
-      let one = c .before .before .before .before .before .before .before .before .before .before .before .before .before .before .before .before .one in
-      let skip-blanks = c .before .before .before .before .before .before .before .before .before .before .before .before .before .before .skip-blanks in
-      let word2 = c .before .before .before .before .before .before .before .before .before .before .before .before .word2 in
-      let comma = c .before .before .before .before .before .before .before .before .before .before .comma in
-      let skip-blanks2 = c .before .before .before .before .before .before .before .skip-blanks2 in
-      let inner2 = c .before .before .before .before .before .before .inner2 in
-      omega (arith, start .pre, (known read (word .ensures) (opened .given .1)) .moved, (known-read stepped (inner .ensures) (one .given .1)) .came, inner .kept .1 .0, skip-blanks .ensures .moved, (known read (word2 .ensures) (comma .given .1)) .moved, skip-blanks2 .ensures .moved, (known-read stepped (inner2 .ensures) (c .before .before .two .given .1)) .came, inner2 .kept .1 .0)
+  close-requires c κs = (at-two (c .before .before)) .room
 
   pub same-length-4 : lts.Need-same-length-4 (callees t) (extreme-at t) extreme.Post
-  same-length-4 c =
-      let inner2 = c .before .before .before .before .before .before .before .before .before .inner2 in
-      let inner = c .before .before .before .before .before .before .before .before .before .before .before .before .before .before .before .before .before .before .before .before .before .before .before .inner in
-      c .before .before .close .kept .1 .0 ∙ inner2 .kept .1 .0 ∙ inner .kept .1 .0
+  same-length-4 c = c .before .before .close .kept .1 .0 ∙ (at-two (c .before .before .before .before .before)) .size
 
   pub returns-5 : lts.Need-returns-5 (callees t) (extreme-at t) extreme.Post
   unfolding rule.least-or-greatest
-  returns-5 c =
-      let start = c .before .before .before .before .before .before .before .before .before .before .before .before .before .before .before .before .before .before .before .before .before .before .before .before .before .before .before .before .before .before .before .before in
-      let word = c .before .before .before .before .before .before .before .before .before .before .before .before .before .before .before .before .before .before .before .before .before .before .before .before .before .before .before .before .word in
-      let opened = c .before .before .before .before .before .before .before .before .before .before .before .before .before .before .before .before .before .before .before .before .before .before .before .before .before .before .opened in
-      let inner = c .before .before .before .before .before .before .before .before .before .before .before .before .before .before .before .before .before .before .before .before .before .before .before .inner in
-      let one = c .before .before .before .before .before .before .before .before .before .before .before .before .before .before .before .before .before .before .before .one in
-      let skip-blanks = c .before .before .before .before .before .before .before .before .before .before .before .before .before .before .before .before .before .skip-blanks in
-      let word2 = c .before .before .before .before .before .before .before .before .before .before .before .before .before .before .before .word2 in
-      let comma = c .before .before .before .before .before .before .before .before .before .before .before .before .before .comma in
-      let skip-blanks2 = c .before .before .before .before .before .before .before .before .before .before .skip-blanks2 in
-      let inner2 = c .before .before .before .before .before .before .before .before .before .inner2 in
-      let two = c .before .before .before .before .before .two in
-      met (least-or-greatest-pays (levels-sound (start .args .mode) (start .args .left)) _) (start .pre .1) (bytes-then _ (known read (word .ensures) (opened .given .1))
-      (call-then _ (known-read stepped (inner .ensures) (one .given .1))
-      (bytes-then _ (skip-blanks .ensures)
-      (bytes-then _ (known read (word2 .ensures) (comma .given .1))
-      (bytes-then _ (skip-blanks2 .ensures)
-      (call-then _ (known-read stepped (inner2 .ensures) (two .given .1))
-      (runs (c .before .before .close .ensures))))))))
+  returns-5 c = ends-here (at-two (c .before .before .before .before .before)) (runs (c .before .before .close .ensures))

@@ -2,12 +2,16 @@
 use Prim.Native.Nat.{ℕ}
 use native.Mathlib.Omega.{arith}
 use mathlib.Core.Path.{refl}
+use mathlib.Core.List.{List}
 use Rattle.rules.specs.Expressions as rule
+use Rattle.rules.specs.Expressions.{levels}
 use Rattle.rules.proofs.Expressions.{levels-sound, ternary-pays}
 use Rattle.lex.specs.Contract.{read}
 use Rattle.lex.proofs.Lexes.{known, given, opt-some, opt-none}
 use Rattle.tape.specs.Contract.{stepped}
-use Rattle.tape.proofs.Runs.{met, runs, known-read, bytes-then, call-then, call-stopped, chosen-run, other-run, as-bytes}
+use Rattle.tape.proofs.Runs.{runs, known-read, bytes-then, chosen-run, other-run, as-bytes}
+use Rattle.tape.proofs.Way.{Way, enter, bytes, called, ends-here, stops-here}
+use Rattle.lex.specs.declared.Cursor.{Cursor}
 use Rattle.ladder.proofs.+absolute+align+asserted+atom+branches+chain+extreme+function+grouping+ident+inner+operand+primary+rung+segment+ternary+unary.Proof.Common.{ternary-at, rung-below, branches-below}
 use Rattle.ladder.proofs.ternary.Reads as ternary
 use Rattle.ladder.proofs.rung.Reads as rung
@@ -22,6 +26,25 @@ callees t =
     (rung-below t, rung.Post, skip-blanks-reads.Asked, skip-blanks-reads.Learnt, word-reads.Asked, word-reads.Learnt, branches-below t, branches.Post)
 
 module _ (t : ℕ) where
+  -- the way to a place, with so many bytes that have no record yet
+  abbrev Along : lts.Start (callees t) (ternary-at t) ternary.Post → ℕ → List ℕ → Cursor → Type 0
+  Along c = Way (rule.ternary (c .args .mode) (levels (c .args .mode) (c .args .left))) (c .args .script .now) (c .args .tape .now) (c .args .c)
+
+  abbrev at-first : (c : lts.After-first (callees t) (ternary-at t) ternary.Post) → Along (c .before .before .before .before .before .before .before .before) 0 (c .before .before .before .before .rung .last .1 .0) (c .first .given .0 .0)
+  unfolding rule.ternary
+  at-first c =
+      let start = c .before .before .before .before .before .before .before .before in
+      let rung = c .before .before .before .before .rung in
+      called _ (enter (ternary-pays (levels-sound (start .args .mode) (start .args .left)) (start .args .mode)) (start .pre .1)) refl (known-read stepped (rung .ensures) (c .first .given .1)) (rung .kept .1 .0)
+
+  abbrev at-skip-blanks : (c : lts.After-skip-blanks (callees t) (ternary-at t) ternary.Post) → let rung = c .before .before .before .before .before .before .rung in Along (c .before .before .before .before .before .before .before .before .before .before) 0 (rung .last .1 .0) (c .skip-blanks .result)
+  unfolding rule.ternary
+  at-skip-blanks c = bytes _ (at-first (c .before .before)) refl (c .skip-blanks .ensures)
+
+  abbrev at-mark : (c : lts.After-mark (callees t) (ternary-at t) ternary.Post) → let rung = c .before .before .before .before .before .before .before .before .before .before .rung in Along (c .before .before .before .before .before .before .before .before .before .before .before .before .before .before) 0 (rung .last .1 .0) (c .mark .given .0 .0)
+  unfolding rule.ternary
+  at-mark c = bytes _ (at-skip-blanks (c .before .before .before .before)) refl (opt-some (known read (c .before .before .word .ensures) (c .mark .given .1)))
+
   pub rung-requires : lts.Need-rung-requires (callees t) (ternary-at t) ternary.Post
   rung-requires c κs = omega (arith, c .before .before .before .pre)
 
@@ -30,36 +53,18 @@ module _ (t : ℕ) where
   returns c =
       let start = c .before .before .before .before .before .before .before in
       let rung = c .before .before .before .rung in
-      met (ternary-pays (levels-sound (start .args .mode) (start .args .left)) (start .args .mode)) (start .pre .1) (call-stopped _ (rung .result) (rung .ensures) (c .match .keys2))
+      stops-here _ (enter (ternary-pays (levels-sound (start .args .mode) (start .args .left)) (start .args .mode)) (start .pre .1)) refl (rung .result) (rung .ensures) (c .match .keys2)
 
   pub returns-2 : lts.Need-returns-2 (callees t) (ternary-at t) ternary.Post
   unfolding rule.ternary
   returns-2 c =
-      let start = c .before .before .before .before .before .before .before .before .before .before .before .before .before .before in
-      let rung = c .before .before .before .before .before .before .before .before .before .before .rung in
-      let first = c .before .before .before .before .before .before .first in
-      let skip-blanks = c .before .before .before .before .skip-blanks in
-      met (ternary-pays (levels-sound (start .args .mode) (start .args .left)) (start .args .mode)) (start .pre .1) (call-then _ (known-read stepped (rung .ensures) (first .given .1))
-      (bytes-then _ (skip-blanks .ensures)
-      (bytes-then _ (opt-none (known read (c .before .before .word .ensures) (c .enum-told .given .1))) (other-run _ refl (as-bytes (given tt))))))
+      ends-here (at-skip-blanks (c .before .before .before .before)) (bytes-then _ (opt-none (known read (c .before .before .word .ensures) (c .enum-told .given .1))) (other-run _ refl (as-bytes (given tt))))
 
   pub branches-requires : lts.Need-branches-requires (callees t) (ternary-at t) ternary.Post
   branches-requires c κs =
       let start = c .before .before .before .before .before .before .before .before .before .before .before .before .before .before .before .before in
-      let rung = c .before .before .before .before .before .before .before .before .before .before .before .before .rung in
-      let first = c .before .before .before .before .before .before .before .before .first in
-      let skip-blanks = c .before .before .before .before .before .before .skip-blanks in
-      omega (arith, start .pre, rung .kept .1 .0, (known-read stepped (rung .ensures) (first .given .1)) .came, skip-blanks .ensures .moved, (known read (c .before .before .before .before .word .ensures) (c .before .before .mark .given .1)) .moved)
+      (omega (arith, start .pre .0), (at-mark (c .before .before)) .room)
 
   pub returns-3 : lts.Need-returns-3 (callees t) (ternary-at t) ternary.Post
   unfolding rule.ternary
-  returns-3 c =
-      let start = c .before .before .before .before .before .before .before .before .before .before .before .before .before .before .before .before .before .before .before in
-      let rung = c .before .before .before .before .before .before .before .before .before .before .before .before .before .before .before .rung in
-      let first = c .before .before .before .before .before .before .before .before .before .before .before .first in
-      let skip-blanks = c .before .before .before .before .before .before .before .before .before .skip-blanks in
-      let word = c .before .before .before .before .before .before .before .word in
-      let mark = c .before .before .before .before .before .mark in
-      met (ternary-pays (levels-sound (start .args .mode) (start .args .left)) (start .args .mode)) (start .pre .1) (call-then _ (known-read stepped (rung .ensures) (first .given .1))
-      (bytes-then _ (skip-blanks .ensures)
-      (bytes-then _ (opt-some (known read (word .ensures) (mark .given .1))) (chosen-run _ refl (runs (c .before .before .branches .ensures))))))
+  returns-3 c = ends-here (at-mark (c .before .before .before .before .before)) (chosen-run _ refl (runs (c .before .before .branches .ensures)))
