@@ -4,9 +4,10 @@
 Run it anywhere: it writes crates/lextest/stdin and crates/lextest/stdout.
 
 The readings below follow the documents' wording, by regular expressions and searches where the Rattle code has loops:
-a second reading of the same documents, and no outside oracle. Blanks, comments, tokens and words are from 01 rule 1, numbers from 01 rule 2, pattern names from 01 rule 6, parts from "Answers and limits". Identifiers,
-segment names and the words that are keywords are in 000 only; the keywords' order in groups is this project's own (parse_identifier_or_function, parse_command, parse_phdr,
-parse_section_attribute).
+a second reading of the same documents, and no outside oracle. Blanks, comments, tokens and words are from 01 rule 1,
+numbers from 01 rule 2, pattern names from 01 rule 6, parts from "Answers and limits". Identifiers, segment names and
+the words that are keywords are in 000 only (parse_identifier_or_function, parse_command, parse_phdr,
+parse_section_attribute); the keywords' order in groups is this project's own.
 """
 import pathlib
 import re

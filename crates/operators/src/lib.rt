@@ -19,7 +19,7 @@ pub enum Operated {
 }
 
 // A sign.
-fn sign(script: &[u8], c: Cursor, w: &[u8], kind: u64) -> Operated
+pub fn sign(script: &[u8], c: Cursor, w: &[u8], kind: u64) -> Operated
     ensures { λ r. ⌜ Lexes (signed (now (w .entry)) kind) (now (script .entry)) c (operated r) ⌝ }
 {
     let here = c.word(script, w);
@@ -30,7 +30,7 @@ fn sign(script: &[u8], c: Cursor, w: &[u8], kind: u64) -> Operated
 }
 
 // A sign that is not read before another one.
-fn sign_unless(script: &[u8], c: Cursor, w: &[u8], next: &[u8], kind: u64) -> Operated
+pub fn sign_unless(script: &[u8], c: Cursor, w: &[u8], next: &[u8], kind: u64) -> Operated
     ensures { λ r. ⌜ Lexes (signed-unless (now (w .entry)) (now (next .entry)) kind) (now (script .entry)) c (operated r) ⌝ }
 {
     let here = c.word(script, w);
@@ -44,7 +44,14 @@ fn sign_unless(script: &[u8], c: Cursor, w: &[u8], next: &[u8], kind: u64) -> Op
 }
 
 // One of two signs.
-fn sign_of_two(script: &[u8], c: Cursor, a: &[u8], kind_a: u64, b: &[u8], kind_b: u64) -> Operated
+pub fn sign_of_two(
+    script: &[u8],
+    c: Cursor,
+    a: &[u8],
+    kind_a: u64,
+    b: &[u8],
+    kind_b: u64,
+) -> Operated
     ensures { λ r. ⌜ Lexes (signed (now (a .entry)) «kind_a» or-else signed (now (b .entry)) «kind_b») (now (script .entry)) c (operated r) ⌝ }
 {
     let first = sign(script, c, a, kind_a);

@@ -9,7 +9,7 @@ use lib.Dec.{eqb}
 use lib.ListN.{length, drop, length-drop}
 use Rattle.rules.specs.Rule.{Rule, Held, opt, tag}
 use Rattle.rules.specs.Bytes.{skip, token}
-use Rattle.rules.specs.Assignments.{compound, target, assignment-op, expand, assigned, provide}
+use Rattle.rules.specs.Assignments.{compound, plain, target, assignment-op, expand, assigned, provide}
 use Rattle.rules.specs.Contents.{sort, sorted-pattern, plain-pattern, pattern, matcher-pattern, keep, matcher, constructors, contents-provide, contents-assert, assignment, contents-command}
 use Rattle.rules.specs.Sections.{attribute, section-attribute, Heading, fill, at-address, alignment, heading, clauses, ending, endings, section, section-command, sections}
 use Rattle.rules.specs.Commands.{entry, format, formats, output-format, body-of, bodied, body, version, Segment, memory-region, memory, segment-kind, segment-word, flag-clause, segment-words, phdr, phdrs, other, paren-group, output-arch, commanded, command-with, command}
@@ -20,15 +20,16 @@ use Rattle.rules.proofs.Bytes.{skip-pays, token-pays, pattern-name-pays
 use Rattle.rules.proofs.Expressions.{keyword-pays, assert-pays, signed-pays, signed-two-pays, expression-pays}
 
 -- ASSIGNMENTS
-compound-pays : (f i : ℕ) → Pays f i (suc (suc i)) compound
+pub compound-pays : (f i : ℕ) → Pays f i (suc (suc i)) compound
 unfolding compound
 compound-pays f i =
-    signed-two-pays _ _ (omega arith) f i or-it (signed-two-pays _ _ (omega arith) f i or-it (signed-two-pays _ _ (omega arith) f i
-    or-it (signed-two-pays _ _ (omega arith) f i or-it (signed-two-pays _ _ (omega arith) f i or-it (signed-two-pays _ _ (omega arith) f i
-    or-it (signed-two-pays _ _ (omega arith) f i or-it (signed-two-pays _ _ (omega arith) f i or-it signed-two-pays _ _ (omega arith) f i)))))))
+    (signed-two-pays _ _ (omega arith) f i or-it signed-two-pays _ _ (omega arith) f i)
+    or-it ((signed-two-pays _ _ (omega arith) f i or-it signed-two-pays _ _ (omega arith) f i)
+    or-it ((signed-two-pays _ _ (omega arith) f i or-it signed-two-pays _ _ (omega arith) f i)
+    or-it ((signed-two-pays _ _ (omega arith) f i or-it signed-two-pays _ _ (omega arith) f i) or-it signed-two-pays _ _ (omega arith) f i)))
 
 pub assignment-op-pays : (name : Token) (dot : Bool) → Earns (assignment-op name dot)
-unfolding assignment-op target
+unfolding assignment-op target plain
 assignment-op-pays name dot f i =
     (compound-pays f i with-it (λ kind. either dot (costs _ _ _ _ _) (costs _ _ _ _ _) before gives _))
     or-it (earns _ (omega arith) before absent _ before absent _ before gives _)

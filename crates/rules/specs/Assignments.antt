@@ -7,11 +7,19 @@ use Rattle.rules.specs.Bytes.{skip, token}
 use Rattle.rules.specs.Expressions.{sign}
 use Rattle.rules.specs.declared.Token.{Token}
 
--- the compound signs, as the kinds of their operators
+-- the compound signs, as the kinds of their operators, in 000's order
 unfoldable pub compound : Rule ℕ
 compound =
-    sign "+=" 4 or-else (sign "-=" 5 or-else (sign "*=" 6 or-else (sign "/=" 7 or-else (sign "<<=" 20 or-else (sign ">>=" 21
-    or-else (sign "&=" 17 or-else (sign "|=" 18 or-else sign "^=" 19)))))))
+    (sign "+=" 4 or-else sign "-=" 5) or-else ((sign "*=" 6 or-else sign "/=" 7) or-else ((sign "<<=" 20 or-else sign ">>=" 21)
+    or-else ((sign "&=" 17 or-else sign "|=" 18) or-else sign "^=" 19)))
+
+-- `=`, not before `=` or `/`
+unfoldable pub plain : Rule ℕ
+plain = do
+  word "="
+  not-here "="
+  not-here "/"
+  give 0
 
 -- the left operand of a compound sign: the location counter, or the symbol
 unfoldable pub target : Token → (dot : Bool) → Rule (Unit {0})
@@ -22,11 +30,7 @@ unfoldable pub assignment-op : Token → (dot : Bool) → Rule ℕ
 assignment-op name dot = (do
   kind ← compound
   target name dot
-  give kind) or-else (do
-    word "="
-    not-here "="
-    not-here "/"
-    give 0)
+  give kind) or-else plain
 
 -- the rest of AssignmentOp::expand: the operator of a compound sign, after its value
 unfoldable pub expand : (kind : ℕ) → Rule (Unit {0})

@@ -137,6 +137,21 @@ module _ {s t : List ℕ} {c : Cursor} where
   pub as-lost : {A : Type 0} {m : Rule A} → Lexes m s c lost → Runs m s t c lost t
   as-lost x = record { said = x .said (holds (c .count) t); kept = refl }
 
+  pub as-read : {A : Type 0} {m : Rule A} (r : Went A) → Lexes m s c r → Runs m s t c r t
+  as-read (went a e) x = as-bytes x
+  as-read lost x = as-lost x
+  as-read sunk x = record { said = x .said (holds (c .count) t); kept = refl }
+
+  -- a test, and what follows both its ways
+  module _ {A B : Type 0} (k : A → Rule B) {r : Went B} {t′ : List ℕ} where
+    pub chosen-then : (m n : Rule A) {b : Bool} → b ≡ true → Runs (m >>= k) s t c r t′ → Runs ((if b then m else n) >>= k) s t c r t′
+    unfolding if_then_else_
+    chosen-then m n e x = rw e x
+
+    pub other-then : (m n : Rule A) {b : Bool} → b ≡ false → Runs (n >>= k) s t c r t′ → Runs ((if b then m else n) >>= k) s t c r t′
+    unfolding if_then_else_
+    other-then m n e x = rw e x
+
   pub sinks-here : {A : Type 0} → Runs {A = A} too-deep s t c sunk t
   unfolding too-deep
   sinks-here = record { said = refl; kept = refl }
