@@ -3,3 +3,4 @@ mod Or
 mod Skip
 pub mod Lexes
 pub mod Name
+pub mod Unique

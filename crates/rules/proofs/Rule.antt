@@ -72,21 +72,17 @@ module _ (s : List ℕ) (p : ℕ) (h : Held) where
 
   -- opt
   module _ {A : Type 0} (m : Rule A) where
-    pub opt-got : {a : A} {q : ℕ} {g : Held} → m .out s p h ≡ got a q g → opt m .out s p h ≡ got (some a) q g
+    pub opt-got : {a : A} {q : ℕ} {g : Held} → m .out s p h ≡ got a q g → (opt m .out s p h ≡ got (some a) q g) × (opt m .most s p h ≡ max (m .most s p h) (g .count))
     unfolding opt _or-else_ _>>=_ give
-    opt-got e = rw e
+    opt-got e = (rw e, rw e (omega arith))
 
-    pub opt-fail : m .out s p h ≡ fail → opt m .out s p h ≡ got none p h
+    pub opt-fail : m .out s p h ≡ fail → (opt m .out s p h ≡ got none p h) × (opt m .most s p h ≡ max (m .most s p h) (h .count))
     unfolding opt _or-else_ _>>=_ give
-    opt-fail e = rw e
+    opt-fail e = (rw e, rw e (omega arith))
 
-    pub opt-deep : m .out s p h ≡ deep → opt m .out s p h ≡ deep
+    pub opt-deep : m .out s p h ≡ deep → (opt m .out s p h ≡ deep) × (opt m .most s p h ≡ m .most s p h)
     unfolding opt _or-else_ _>>=_ give
-    opt-deep e = rw e
-
-    pub opt-most : m .most s p h ≤ opt m .most s p h
-    unfolding opt _or-else_ _>>=_ give
-    opt-most = omega arith
+    opt-deep e = (rw e, rw e (omega arith))
 
   -- RECORDS
   pub add-answers : (k a b c d : ℕ) → (add k a b c d .out s p h ≡ got tt p (more h (k ∷ a ∷ b ∷ c ∷ d ∷ []))) × (add k a b c d .most s p h ≡ suc (h .count))
@@ -99,23 +95,26 @@ module _ (s : List ℕ) (p : ℕ) (h : Held) where
 
   -- REPETITION: the end is tried first; where it fails an item is read, and the rest goes on from there
   module _ {A : Type 0} (item : Rule A) (end : Rule (Unit {0})) (n k : ℕ) where
-    pub repeat-ended : {q : ℕ} {g : Held} → end .out s p h ≡ got tt q g → repeating item end (suc n) k .out s p h ≡ got k q g
-    unfolding repeating opt _or-else_ _>>=_ give if_then_else_
-    repeat-ended e = rw e
+    abbrev whole : Rule ℕ
+    whole = repeating item end (suc n) k
 
-    pub repeat-deep : end .out s p h ≡ deep → repeating item end (suc n) k .out s p h ≡ deep
+    pub repeat-ended : {q : ℕ} {g : Held} → end .out s p h ≡ got tt q g → (whole .out s p h ≡ got k q g) × (whole .most s p h ≡ max (end .most s p h) (g .count))
     unfolding repeating opt _or-else_ _>>=_ give if_then_else_
-    repeat-deep e = rw e
+    repeat-ended e = (rw e, rw e (omega arith))
+
+    pub repeat-deep : end .out s p h ≡ deep → (whole .out s p h ≡ deep) × (whole .most s p h ≡ end .most s p h)
+    unfolding repeating opt _or-else_ _>>=_ give if_then_else_
+    repeat-deep e = (rw e, rw e (omega arith))
 
     module _ (unended : end .out s p h ≡ fail) where
-      pub repeat-on : {a : A} {q : ℕ} {g : Held} → item .out s p h ≡ got a q g → repeating item end (suc n) k .out s p h ≡ repeating item end n (suc k) .out s q g
+      pub repeat-on : {a : A} {q : ℕ} {g : Held} → item .out s p h ≡ got a q g → (whole .out s p h ≡ repeating item end n (suc k) .out s q g) × (whole .most s p h ≡ max (max (end .most s p h) (h .count)) (max (item .most s p h) (repeating item end n (suc k) .most s q g)))
       unfolding repeating opt _or-else_ _>>=_ give if_then_else_
-      repeat-on e = rw (unended, e)
+      repeat-on e = (rw (unended, e), rw (unended, e) (omega arith))
 
-      pub repeat-item-fail : item .out s p h ≡ fail → repeating item end (suc n) k .out s p h ≡ fail
+      pub repeat-item-fail : item .out s p h ≡ fail → (whole .out s p h ≡ fail) × (whole .most s p h ≡ max (max (end .most s p h) (h .count)) (item .most s p h))
       unfolding repeating opt _or-else_ _>>=_ give if_then_else_
-      repeat-item-fail e = rw (unended, e)
+      repeat-item-fail e = (rw (unended, e), rw (unended, e) (omega arith))
 
-      pub repeat-item-deep : item .out s p h ≡ deep → repeating item end (suc n) k .out s p h ≡ deep
+      pub repeat-item-deep : item .out s p h ≡ deep → (whole .out s p h ≡ deep) × (whole .most s p h ≡ max (max (end .most s p h) (h .count)) (item .most s p h))
       unfolding repeating opt _or-else_ _>>=_ give if_then_else_
-      repeat-item-deep e = rw (unended, e)
+      repeat-item-deep e = (rw (unended, e), rw (unended, e) (omega arith))
