@@ -1,13 +1,7 @@
 -- Where the parts of a case stand in an input of n bytes, and where a text ends that was put into a buffer of n bytes.
 use Prim.Native.Nat.{ℕ, _≤_, _<_}
-use Rattle.exprtest.specs.declared.cases.Field.{Field}
 use Rattle.exprtest.specs.declared.cases.Header.{Header}
 use Rattle.exprtest.specs.declared.cases.Case.{Case}
-
--- a number ends after its first place and inside the input
-abbrev pub After : (n from : ℕ) → Field → Type 0
-After n from (Field.Got v place) = (from < place) × (place ≤ n)
-After n from Field.Malformed = Unit {0}
 
 -- a header ends after its first place and inside the input
 abbrev pub Headed : (n at : ℕ) → Header → Type 0

@@ -2,7 +2,7 @@
 mod cases;
 
 use cases::Case;
-use cases::Field;
+use fields::Field;
 use lex::Cursor;
 use lex::Read;
 use lex::Taken;
@@ -75,12 +75,12 @@ fn run_word(l: &[u8]) {
 
 // The part's start and length stand before the first bar, and the text after it. The part is printed in brackets.
 fn run_part(l: &[u8]) {
-    let first = cases::field_at(l, 0, b' ');
+    let first = fields::field_at(l, 0, b' ');
     let Field::Got(from, next) = first else {
         print(b" malformed");
         return;
     };
-    let second = cases::field_at(l, next, b'|');
+    let second = fields::field_at(l, next, b'|');
     let Field::Got(len, text) = second else {
         print(b" malformed");
         return;

@@ -2,7 +2,7 @@
 use mathlib.Core.Path.{subst}
 use native.Mathlib.Omega.{arith}
 use borrow.Author.Needs.{needs}
-use Rattle.exprtest.specs.Cases.{After}
+use Rattle.fields.specs.Fields.{After}
 use Rattle.exprtest.proofs.cases.header_at.Statement.{statement}
 use Rattle.exprtest.proofs.cases.header_at.Tie as tie
 

@@ -2,7 +2,7 @@
 use mathlib.Core.Path.{subst}
 use native.Mathlib.Omega.{arith}
 use borrow.Author.Needs.{needs}
-use Rattle.lextest.specs.Cases.{After}
+use Rattle.fields.specs.Fields.{After}
 use Rattle.lextest.proofs.cases.case_at.Statement.{statement}
 use Rattle.lextest.proofs.cases.case_at.Tie as tie
 

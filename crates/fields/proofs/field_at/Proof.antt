@@ -2,8 +2,8 @@
 use Prim.Native.Nat.{_-_, _≤_}
 use borrow.Author.Needs.{needs}
 use lib.ListN.{length}
-use Rattle.exprtest.proofs.cases.field_at.Statement.{statement}
-use Rattle.exprtest.proofs.cases.field_at.Tie as tie
+use Rattle.fields.proofs.field_at.Statement.{statement}
+use Rattle.fields.proofs.field_at.Tie as tie
 
 abbrev Inv-loop : tie.InvT-loop
 Inv-loop l from end v₀ i₀ v i = from ≤ i
