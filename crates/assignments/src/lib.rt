@@ -1,16 +1,22 @@
-// Assignments (01, rule 4): their signs.
-ghost use Rattle.rules.specs.Assignments.{compound as compound-rule, plain as plain-rule, assignment-op as assignment-op-rule};
-ghost use Rattle.lex.specs.Contract.{Lexes};
+// Assignments (01, rule 4): their signs and values, and the two commands that stand in a script, in SECTIONS and in contents alike.
+ghost use Prim.Native.Nat.{_+_, _≤_};
+ghost use lib.ListN.{length};
+ghost use Rattle.rules.specs.Expressions.{expression, assert};
+ghost use Rattle.rules.specs.Assignments as rule;
+ghost use Rattle.lex.specs.Contract.{Lexes, went};
 ghost use Rattle.operators.specs.Answers.{operated};
-ghost use Rattle.tape.specs.Contract.{Room, Reads};
+ghost use Rattle.tape.specs.Contract.{Room, Reads, Run, stepped};
 use lex::Cursor;
 use lex::Read;
+use lex::Taken;
 use operators::Operated;
+use rules::Mode;
 use rules::Token;
+use tape::Step;
 
 // A compound sign, as the kind of its operator.
 fn compound(script: &[u8], c: Cursor) -> Operated
-    ensures { λ r. ⌜ Lexes compound-rule (now (script .entry)) c (operated r) ⌝ }
+    ensures { λ r. ⌜ Lexes rule.compound (now (script .entry)) c (operated r) ⌝ }
 {
     let sums = operators::sign_of_two(script, c, b"+=", 4, b"-=", 5);
     let Operated::Fail = sums else {
@@ -33,7 +39,7 @@ fn compound(script: &[u8], c: Cursor) -> Operated
 
 // `=`, not before `=` or `/`.
 fn plain(script: &[u8], c: Cursor) -> Operated
-    ensures { λ r. ⌜ Lexes plain-rule (now (script .entry)) c (operated r) ⌝ }
+    ensures { λ r. ⌜ Lexes rule.plain (now (script .entry)) c (operated r) ⌝ }
 {
     let sign = c.word(script, b"=");
     let Read::Got(d) = sign else {
@@ -51,7 +57,7 @@ fn plain(script: &[u8], c: Cursor) -> Operated
 // The sign of an assignment to a name, as the kind of its operator or 0; the left operand of a compound sign is held once it is read.
 pub fn assignment_op(script: &[u8], tape: &mut [u64], c: Cursor, name: Token, dot: bool) -> Operated
     requires { ⌜ Room (now script) (now tape) c ⌝ }
-    ensures { λ r. ⌜ Reads (assignment-op-rule name dot) (now (script .entry)) (now (tape .entry)) c (operated r) (now (tape .exit)) ⌝ }
+    ensures { λ r. ⌜ Reads (rule.assignment-op name dot) (now (script .entry)) (now (tape .entry)) c (operated r) (now (tape .exit)) ⌝ }
 {
     let sign = compound(script, c);
     let Operated::Got(kind, d) = sign else {
@@ -64,4 +70,102 @@ pub fn assignment_op(script: &[u8], tape: &mut [u64], c: Cursor, name: Token, do
         kind,
         tape::push(tape, d, 2, name.start as u64, name.len as u64, 0, 0),
     )
+}
+
+// The value after a sign, and the operator of a compound sign, whose kind is not 0.
+pub fn expand(
+    script: &[u8],
+    tape: &mut [u64],
+    c: Cursor,
+    mode: Mode,
+    left: usize,
+    kind: u64,
+) -> Step
+    requires { ⌜ Room (now script) (now tape) c ⌝ }
+    requires { ⌜ c .count + 1 ≤ c .at ⌝ }
+    ensures { λ r. ⌜ Run (rule.expand (expression mode left) kind) (now (script .entry)) (now (tape .entry)) c (stepped r) (now (tape .exit)) ⌝ }
+{
+    let skipped = c.skip(script);
+    let Read::Got(d) = skipped else {
+        return Step::Fail;
+    };
+    let value = ladder::expression(script, tape, d, mode, left);
+    let Step::Got(e) = value else {
+        return value;
+    };
+    if kind == 0 {
+        return Step::Got(e);
+    }
+    Step::Got(tape::push(tape, e, kind, 0, 0, 0, 0))
+}
+
+// The location is set, or a symbol.
+pub fn assigned(script: &[u8], tape: &mut [u64], c: Cursor, name: Token, dot: bool) -> Step
+    requires { ⌜ Room (now script) (now tape) c ⌝ }
+    requires { ⌜ c .count + 1 ≤ c .at ⌝ }
+    ensures { λ r. ⌜ Run (rule.assigned name dot) (now (script .entry)) (now (tape .entry)) c (stepped r) (now (tape .exit)) ⌝ }
+{
+    if dot {
+        return Step::Got(tape::push(tape, c, 48, 0, 0, 0, 0));
+    }
+    Step::Got(tape::push(tape, c, 47, name.start as u64, name.len as u64, 0, 0))
+}
+
+// PROVIDE and PROVIDE_HIDDEN, after their word.
+pub fn provide(
+    script: &[u8],
+    tape: &mut [u64],
+    c: Cursor,
+    mode: Mode,
+    left: usize,
+    hidden: u64,
+) -> Step
+    requires { ⌜ Room (now script) (now tape) c ⌝ }
+    ensures { λ r. ⌜ Reads (rule.provide hidden (expression mode left)) (now (script .entry)) (now (tape .entry)) c (stepped r) (now (tape .exit)) ⌝ }
+{
+    let opened = c.word_skip(script, b"(");
+    let Read::Got(d) = opened else {
+        return Step::Fail;
+    };
+    let name = d.token(script);
+    let Taken::Got(t, e) = name else {
+        return Step::Fail;
+    };
+    let equals = e.skip_word_skip(script, b"=");
+    let Read::Got(f) = equals else {
+        return Step::Fail;
+    };
+    let value = ladder::expression(script, tape, f, mode, left);
+    let Step::Got(g) = value else {
+        return value;
+    };
+    let closed = g.skip_word_skip(script, b")");
+    let Read::Got(h) = closed else {
+        return Step::Fail;
+    };
+    let ended = h.opt_word_skip(script, b";");
+    let Read::Got(i) = ended else {
+        return Step::Fail;
+    };
+    Step::Got(tape::push(tape, i, 49, t.start as u64, t.len as u64, hidden, 0))
+}
+
+// ASSERT, after its word.
+pub fn asserted(script: &[u8], tape: &mut [u64], c: Cursor, mode: Mode, left: usize) -> Step
+    requires { ⌜ Room (now script) (now tape) c ⌝ }
+    ensures { λ r. ⌜ Reads (assert 50 (expression mode left)) (now (script .entry)) (now (tape .entry)) c (stepped r) (now (tape .exit)) ⌝ }
+{
+    let opened = c.word_skip(script, b"(");
+    let Read::Got(d) = opened else {
+        return Step::Fail;
+    };
+    let value = ladder::expression(script, tape, d, mode, left);
+    let Step::Got(e) = value else {
+        return value;
+    };
+    let text = ladder::parts::message(script, e);
+    let Taken::Got(t, f) = text else {
+        return Step::Fail;
+    };
+    Step::Got(tape::push(tape, f, 50, t.start as u64, t.len as u64, c.at as u64, 0))
 }

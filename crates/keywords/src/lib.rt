@@ -3,10 +3,11 @@ ghost use mathlib.Core.Path.{_≡_};
 ghost use mathlib.Core.List.{[]};
 ghost use Prim.Native.Nat.{_+_, _<_, _≤_};
 ghost use lib.ListN.{length, take, drop, getD};
-ghost use Rattle.rules.specs.Text.{same};
+ghost use Rattle.rules.specs.Text.{same, part-of};
 ghost use Rattle.rules.specs.Keywords.{keywords, keyword-of, segment-type as segment-type-of};
 ghost use Rattle.keywords.specs.Words.{table, typed};
 use lex::bytes;
+use rules::Token;
 
 // The words that a token or an identifier is compared with, in 000's order, a blank after each.
 const WORDS: [u8; 402] =
@@ -167,6 +168,13 @@ pub fn keyword(l: &[u8]) -> usize
         n += 1;
     }
     0
+}
+
+// The number of the word that a token is.
+pub fn keyword_of(script: &[u8], t: Token) -> usize
+    ensures { λ r. ⌜ r ≡ keyword-of (part-of (now (script .entry)) (t .start) (t .len)) ⌝ }
+{
+    keyword(bytes::part(script, t.start, t.len))
 }
 
 // The type of a segment that a keyword names.

@@ -15,9 +15,9 @@ use Rattle.lex.proofs.Lexes.{opt-some}
 use types.Run.{OneOf}
 use denote.Enum.Declared.{tagOf}
 use Rattle.tape.proofs.Step.{the-type}
-use Rattle.tape.specs.Contract.{Room, Pushed, Reads, stepped, Came}
+use Rattle.tape.specs.Contract.{Run, Room, Pushed, Reads, stepped, Came}
 use Rattle.tape.specs.declared.Step.{Step}
-use Rattle.tape.proofs.Runs.{Runs, fewer, runs, bytes-then, call-then, call-stopped, one-more, still-there}
+use Rattle.tape.proofs.Runs.{fewer, runs, bytes-then, call-then, call-stopped, one-more, still-there}
 
 module _ (op : Rule ℕ) (operand : Rule (Unit {0})) where
   -- with no operator here the chain ends, whatever turns are left
@@ -27,7 +27,7 @@ module _ (op : Rule ℕ) (operand : Rule (Unit {0})) where
   none-here s c t (suc n) y = rw (y .said (holds (c .count) t))
 
   -- a turn is left
-  turn : (s : List ℕ) (c : Cursor) (t : List ℕ) (n : ℕ) → 0 < n → {r : Went (Unit {0})} {t′ : List ℕ} → ((m : ℕ) → Runs (chain op operand (suc m)) s t c r t′) → Runs (chain op operand n) s t c r t′
+  turn : (s : List ℕ) (c : Cursor) (t : List ℕ) (n : ℕ) → 0 < n → {r : Went (Unit {0})} {t′ : List ℕ} → ((m : ℕ) → Run (chain op operand (suc m)) s t c r t′) → Run (chain op operand n) s t c r t′
   turn s c t zero h f = absurd (let k : 0 < 0 = h in omega arith)
   turn s c t (suc m) h f = f m
 
@@ -40,7 +40,7 @@ module _ (op : Rule ℕ) (operand : Rule (Unit {0})) where
     multispace0
     chain op operand m
 
-  found : {s t : List ℕ} {c d : Cursor} (m : ℕ) {kind : ℕ} {r : Went (Unit {0})} {t′ : List ℕ} → Lexes op s c (went kind d) → Runs (after-op m kind) s t d r t′ → Runs (chain op operand (suc m)) s t c r t′
+  found : {s t : List ℕ} {c d : Cursor} (m : ℕ) {kind : ℕ} {r : Went (Unit {0})} {t′ : List ℕ} → Lexes op s c (went kind d) → Run (after-op m kind) s t d r t′ → Run (chain op operand (suc m)) s t c r t′
   unfolding chain perhaps
   found m y z = bytes-then _ (opt-some y) z
 
@@ -56,23 +56,23 @@ module _ (op : Rule ℕ) (operand : Rule (Unit {0})) (s : List ℕ) where
   begun n t c r = record { said = refl; kept = refl; size = refl; came = record { on = omega arith; inside = r .place; grown = omega arith; paid = omega arith }; room = r }
 
   module _ {n₀ : ℕ} {t₀ : List ℕ} {c₀ : Cursor} {n : ℕ} {t : List ℕ} {c : Cursor} (x : Chained n₀ t₀ c₀ n t c) where
-    ends : {r : Went (Unit {0})} {t′ : List ℕ} → Runs (chain op operand n) s t c r t′ → Runs (chain op operand n₀) s t₀ c₀ r t′
+    ends : {r : Went (Unit {0})} {t′ : List ℕ} → Run (chain op operand n) s t c r t′ → Run (chain op operand n₀) s t₀ c₀ r t′
     ends {t′ = t′} y = record {
       said = x .said ∙ y .said;
       kept = fewer (5 * c₀ .count) (5 * c .count) t t′ (let k = x .came in omega arith) (y .kept) ∙ x .kept;
     }
 
     -- with no turn left, and with no operator here
-    pub spent : n ≤ 0 → Runs (chain op operand n₀) s t₀ c₀ (went tt c) t
+    pub spent : n ≤ 0 → Run (chain op operand n₀) s t₀ c₀ (went tt c) t
     unfolding chain give
     spent h = let z : n ≡ 0 = omega arith in ends (record { said = rw z; kept = refl })
 
-    pub ended : Lexes op s c lost → Runs (chain op operand n₀) s t₀ c₀ (went tt c) t
+    pub ended : Lexes op s c lost → Run (chain op operand n₀) s t₀ c₀ (went tt c) t
     ended y = ends (record { said = none-here op operand s c t n y; kept = refl })
 
     module _ (h : 0 < n) {kind : ℕ} {d e : Cursor} (y : Lexes op s c (went kind d)) (b : Lexes multispace0 s d (went tt e)) where
       -- an operand that was not read
-      pub stopped : (r : Step) {t₁ : List ℕ} → Reads operand s t e (stepped r) t₁ → OneOf (1 ∷ 2 ∷ []) (tagOf the-type r) → Runs (chain op operand n₀) s t₀ c₀ (stepped r) t₁
+      pub stopped : (r : Step) {t₁ : List ℕ} → Reads operand s t e (stepped r) t₁ → OneOf (1 ∷ 2 ∷ []) (tagOf the-type r) → Run (chain op operand n₀) s t₀ c₀ (stepped r) t₁
       stopped r {t₁} z w = ends (turn op operand s c t n h (λ m. found op operand m y (bytes-then _ b (call-stopped _ r z w))))
 
       -- one that was, with its operator's record: the chain goes on

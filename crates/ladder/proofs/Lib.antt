@@ -1,4 +1,3 @@
 mod Closing
 mod Levels
 mod Chained
-mod Names

@@ -128,23 +128,19 @@ fn asserted(script: &[u8], tape: &mut [u64], c: Cursor, mode: Mode, left: usize)
     requires { ⌜ Room (now script) (now tape) c ⌝ }
     ensures { λ r. ⌜ Reads (rule.assert 39 (levels mode left .expressions)) (now (script .entry)) (now (tape .entry)) c (stepped r) (now (tape .exit)) ⌝ }
 {
-    let opened = c.word(script, b"(");
+    let opened = c.word_skip(script, b"(");
     let Read::Got(d) = opened else {
         return Step::Fail;
     };
-    let blanks = d.skip(script);
-    let Read::Got(e) = blanks else {
-        return Step::Fail;
-    };
-    let value = inner(script, tape, e, mode, left);
-    let Step::Got(f) = value else {
+    let value = inner(script, tape, d, mode, left);
+    let Step::Got(e) = value else {
         return value;
     };
-    let text = parts::message(script, f);
-    let Taken::Got(t, g) = text else {
+    let text = parts::message(script, e);
+    let Taken::Got(t, f) = text else {
         return Step::Fail;
     };
-    Step::Got(tape::push(tape, g, 39, t.start as u64, t.len as u64, c.at as u64, 0))
+    Step::Got(tape::push(tape, f, 39, t.start as u64, t.len as u64, c.at as u64, 0))
 }
 
 // The function that a keyword names.
@@ -325,7 +321,7 @@ fn branches(script: &[u8], tape: &mut [u64], c: Cursor, mode: Mode, left: usize)
 }
 
 // The top of the ladder, where so many levels may still be opened.
-pub fn ternary(script: &[u8], tape: &mut [u64], c: Cursor, mode: Mode, left: usize) -> Step
+fn ternary(script: &[u8], tape: &mut [u64], c: Cursor, mode: Mode, left: usize) -> Step
     requires { ⌜ Room (now script) (now tape) c ⌝ }
     ensures { λ r. ⌜ Reads (rule.ternary mode (levels mode left)) (now (script .entry)) (now (tape .entry)) c (stepped r) (now (tape .exit)) ⌝ }
 {
@@ -339,4 +335,12 @@ pub fn ternary(script: &[u8], tape: &mut [u64], c: Cursor, mode: Mode, left: usi
         return Step::Got(e);
     };
     branches(script, tape, f, mode, left)
+}
+
+// An expression, where so many levels may still be opened.
+pub fn expression(script: &[u8], tape: &mut [u64], c: Cursor, mode: Mode, left: usize) -> Step
+    requires { ⌜ Room (now script) (now tape) c ⌝ }
+    ensures { λ r. ⌜ Reads (rule.expression mode left) (now (script .entry)) (now (tape .entry)) c (stepped r) (now (tape .exit)) ⌝ }
+{
+    ternary(script, tape, c, mode, left)
 }

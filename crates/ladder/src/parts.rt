@@ -1,8 +1,8 @@
 // What expressions are made of that opens no level: the brackets of functions, names and messages.
-ghost use Rattle.rules.specs.Rule.{_>>_ as seq, word, tag, add};
-ghost use Rattle.rules.specs.Bytes.{multispace0, skip-comments-and-whitespace};
+ghost use Rattle.rules.specs.Rule.{_>>_ as seq, word, add};
+ghost use Rattle.rules.specs.Bytes.{multispace0};
 ghost use Rattle.rules.specs.Expressions.{function-arg, named as named-rule, quoted-segment, segment-head, assert-message};
-ghost use Rattle.lex.specs.Contract.{Lexes, read, taken};
+ghost use Rattle.lex.specs.Contract.{Lexes, taken};
 ghost use Rattle.tape.specs.Contract.{Room, Reads, stepped};
 use lex::Cursor;
 use lex::Read;
@@ -100,40 +100,21 @@ pub fn segment_head_at(script: &[u8], c: Cursor) -> Taken
     Taken::Got(t, f.skip_blanks(script))
 }
 
-// Past blanks, comments and a text.
-fn skip_to(script: &[u8], c: Cursor, w: &[u8]) -> Read
-    ensures { λ r. ⌜ Lexes (seq skip-comments-and-whitespace (tag (now (w .entry)))) (now (script .entry)) c (read r) ⌝ }
-{
-    let skipped = c.skip(script);
-    let Read::Got(d) = skipped else {
-        return Read::Fail;
-    };
-    d.word(script, w)
-}
-
 // What follows ASSERT's expression.
 pub fn message(script: &[u8], c: Cursor) -> Taken
     ensures { λ r. ⌜ Lexes assert-message (now (script .entry)) c (taken r) ⌝ }
 {
-    let comma = skip_to(script, c, b",");
+    let comma = c.skip_word_skip(script, b",");
     let Read::Got(d) = comma else {
         return Taken::Fail;
     };
-    let blanks = d.skip(script);
-    let Read::Got(e) = blanks else {
+    let text = d.token(script);
+    let Taken::Got(t, e) = text else {
         return Taken::Fail;
     };
-    let text = e.token(script);
-    let Taken::Got(t, f) = text else {
+    let closed = e.skip_word_skip(script, b")");
+    let Read::Got(f) = closed else {
         return Taken::Fail;
     };
-    let closed = skip_to(script, f, b")");
-    let Read::Got(g) = closed else {
-        return Taken::Fail;
-    };
-    let rest = g.skip(script);
-    let Read::Got(h) = rest else {
-        return Taken::Fail;
-    };
-    Taken::Got(t, h)
+    Taken::Got(t, f)
 }

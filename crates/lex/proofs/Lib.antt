@@ -4,3 +4,4 @@ mod Skip
 pub mod Lexes
 pub mod Name
 pub mod Unique
+pub mod Way

@@ -4,7 +4,7 @@ ghost use Prim.Native.Nat.{_+_, _<_, _^_};
 ghost use lib.ListN.{drop};
 ghost use Rattle.rules.specs.Text.{begins};
 ghost use Rattle.rules.specs.Rule.{tag, _or-else_, take-while, take-until};
-ghost use Rattle.rules.specs.Bytes.{multispace0, comment, skip-comments-and-whitespace, token, identifier};
+ghost use Rattle.rules.specs.Bytes.{multispace0, comment, skip-comments-and-whitespace, tag-skip, skip-tag, skip-tag-skip, opt-tag, opt-tag-skip, token, identifier};
 ghost use Rattle.lex.specs.Contract.{Lexes, Past, went, read, taken, commented};
 ghost use Rattle.lex.specs.Class.{has};
 use rules::Token;
@@ -160,6 +160,65 @@ impl Cursor {
                 }
             }
         }
+    }
+
+    // Past these bytes, and blanks and comments after them.
+    pub fn word_skip(self, script: &[u8], w: &[u8]) -> Read
+        ensures { λ r. ⌜ Lexes (tag-skip (now (w .entry))) (now (script .entry)) self (read r) ⌝ }
+    {
+        let found = self.word(script, w);
+        let Read::Got(c) = found else {
+            return Read::Fail;
+        };
+        c.skip(script)
+    }
+
+    // Past blanks and comments, and these bytes after them.
+    pub fn skip_word(self, script: &[u8], w: &[u8]) -> Read
+        ensures { λ r. ⌜ Lexes (skip-tag (now (w .entry))) (now (script .entry)) self (read r) ⌝ }
+    {
+        let skipped = self.skip(script);
+        let Read::Got(c) = skipped else {
+            return Read::Fail;
+        };
+        c.word(script, w)
+    }
+
+    // Past these bytes, and blanks and comments on both sides.
+    pub fn skip_word_skip(self, script: &[u8], w: &[u8]) -> Read
+        ensures { λ r. ⌜ Lexes (skip-tag-skip (now (w .entry))) (now (script .entry)) self (read r) ⌝ }
+    {
+        let skipped = self.skip(script);
+        let Read::Got(c) = skipped else {
+            return Read::Fail;
+        };
+        let found = c.word(script, w);
+        let Read::Got(d) = found else {
+            return Read::Fail;
+        };
+        d.skip(script)
+    }
+
+    // Past these bytes if they stand here.
+    pub fn opt_word(self, script: &[u8], w: &[u8]) -> Cursor
+        ensures { λ r. ⌜ Lexes (opt-tag (now (w .entry))) (now (script .entry)) self (went tt r) ⌝ }
+    {
+        let found = self.word(script, w);
+        let Read::Got(c) = found else {
+            return self;
+        };
+        c
+    }
+
+    // Past these bytes if they stand here, and blanks and comments.
+    pub fn opt_word_skip(self, script: &[u8], w: &[u8]) -> Read
+        ensures { λ r. ⌜ Lexes (opt-tag-skip (now (w .entry))) (now (script .entry)) self (read r) ⌝ }
+    {
+        let found = self.word(script, w);
+        let Read::Got(c) = found else {
+            return self.skip(script);
+        };
+        c.skip(script)
     }
 
     // A quoted run, or one or more bytes up to the next that ends a token.

@@ -61,6 +61,26 @@ pub fn sign_of_two(
     Operated::Got(k, d)
 }
 
+// One of three signs.
+pub fn sign_of_three(
+    script: &[u8],
+    c: Cursor,
+    a: &[u8],
+    kind_a: u64,
+    b: &[u8],
+    kind_b: u64,
+    d: &[u8],
+    kind_d: u64,
+) -> Operated
+    ensures { λ r. ⌜ Lexes (signed (now (a .entry)) «kind_a» or-else (signed (now (b .entry)) «kind_b» or-else signed (now (d .entry)) «kind_d»)) (now (script .entry)) c (operated r) ⌝ }
+{
+    let first = sign(script, c, a, kind_a);
+    let Operated::Got(k, e) = first else {
+        return sign_of_two(script, c, b, kind_b, d, kind_d);
+    };
+    Operated::Got(k, e)
+}
+
 fn comparison(script: &[u8], c: Cursor) -> Operated
     ensures { λ r. ⌜ Lexes comparison-rule (now (script .entry)) c (operated r) ⌝ }
 {

@@ -1,7 +1,7 @@
 -- Blanks, comments and tokens pay: none adds a record, and a token reads a byte.
 use Prim.Native.Nat.{ℕ, zero, suc}
 use native.Mathlib.Omega.{arith}
-use Rattle.rules.specs.Bytes.{multispace0, comment, skipping, skip-comments-and-whitespace, token, identifier, pattern-name, segment-name}
+use Rattle.rules.specs.Bytes.{multispace0, comment, skipping, skip-comments-and-whitespace, tag-skip, skip-tag, skip-tag-skip, opt-tag, opt-tag-skip, token, identifier, pattern-name, segment-name}
 use mathlib.Core.Path.{_≡_, refl, sym, ap, _∙_}
 use mathlib.Core.List.{List}
 use mathlib.Core.Bool.{Bool, true, false, cond, false≢true}
@@ -15,7 +15,7 @@ use Rattle.rules.specs.Rule.{Held, Out, got, fail, Rule, _>>=_, _>>_, if
 use Rattle.rules.specs.declared.Token.{Token}
 use Rattle.rules.proofs.Rule.{not-fail, Came, came}
 use Rattle.rules.proofs.Text.{begins-inside}
-use Rattle.rules.proofs.Pays.{Fine, Earns, _with-it_, _before_, either, wrong, gives, sized, peeks, named, passes, over, earns, takes, takes-until}
+use Rattle.rules.proofs.Pays.{Fine, Earns, opt-over, _with-it_, _before_, either, wrong, gives, sized, peeks, named, passes, over, earns, takes, takes-until}
 
 pub multispace0-pays : Fine multispace0
 unfolding multispace0
@@ -76,6 +76,36 @@ skipping-pays (suc n) f i = multispace0-pays f i before comment-pays f i with-it
 pub skip-pays : Fine skip-comments-and-whitespace
 unfolding skip-comments-and-whitespace
 skip-pays f i = sized with-it (λ n. skipping-pays (suc n) f i)
+
+-- a text that is read over, or that earns a record, with what is skipped
+module _ (w : List ℕ) where
+  pub tag-skip-pays : Fine (tag-skip w)
+  unfolding tag-skip
+  tag-skip-pays f i = over w before skip-pays f i
+
+  pub tag-skip-earns : 1 ≤ length w → Earns (tag-skip w)
+  unfolding tag-skip
+  tag-skip-earns h f i = earns w h before skip-pays f (suc i)
+
+  pub skip-tag-pays : Fine (skip-tag w)
+  unfolding skip-tag
+  skip-tag-pays f i = skip-pays f i before over w
+
+  pub skip-tag-skip-pays : Fine (skip-tag-skip w)
+  unfolding skip-tag-skip
+  skip-tag-skip-pays f i = skip-pays f i before over w before skip-pays f i
+
+  pub skip-tag-skip-earns : 1 ≤ length w → Earns (skip-tag-skip w)
+  unfolding skip-tag-skip
+  skip-tag-skip-earns h f i = skip-pays f i before earns w h before skip-pays f (suc i)
+
+  pub opt-tag-pays : Fine (opt-tag w)
+  unfolding opt-tag
+  opt-tag-pays f i = opt-over (over w) before gives _
+
+  pub opt-tag-skip-pays : Fine (opt-tag-skip w)
+  unfolding opt-tag-skip
+  opt-tag-skip-pays f i = opt-over (over w) before skip-pays f i
 
 pub token-pays : Earns token
 unfolding token

@@ -11,7 +11,7 @@ use Rattle.rules.specs.declared.Mode.{Mode}
 use Rattle.rules.specs.declared.Row.{Row}
 use Rattle.rules.specs.declared.Row.the-variants.{LogicalOr, LogicalAnd, Comparison, Comparisons, BitwiseOr, BitwiseXor, BitwiseAnd, Shift, Additive, Multiplicative}
 use Rattle.rules.proofs.Pays.{Pays, Fine, Earns, _with-it_, _before_, _or-it_, opted-or, opted-still, either, weaker, wrong, sinks, gives, places, sized, peeks, absent, named as names, over, earns, earns-two, costs}
-use Rattle.rules.proofs.Bytes.{multispace0-pays, skip-pays, token-pays, identifier-pays, segment-name-pays}
+use Rattle.rules.proofs.Bytes.{multispace0-pays, tag-skip-pays, skip-tag-skip-pays, token-pays, identifier-pays, segment-name-pays}
 use Rattle.rules.proofs.Numbers.{number-pays}
 
 -- to number a word reads nothing
@@ -99,14 +99,12 @@ segment-head-pays f i =
 
 pub assert-message-pays : Earns assert-message
 unfolding assert-message
-assert-message-pays f i =
-    (skip-pays f i before over _) before skip-pays f i before token-pays f i with-it (λ message. (skip-pays f (suc i) before over _)
-    before skip-pays f (suc i) before gives _)
+assert-message-pays f i = skip-tag-skip-pays _ f i before token-pays f i with-it (λ message. skip-tag-skip-pays _ f (suc i) before gives _)
 
 pub assert-pays : (kind : ℕ) {e : Rule (Unit {0})} → Fine e → Fine (assert kind e)
 unfolding assert
 assert-pays kind y f i =
-    places with-it (λ bracket. over _ before skip-pays f i before y f i before assert-message-pays f i with-it (λ message. costs _ _ _ _ _))
+    places with-it (λ bracket. tag-skip-pays _ f i before y f i before assert-message-pays f i with-it (λ message. costs _ _ _ _ _))
 
 module _ {deeper : Deeper} (x : Sound deeper) where
   pub align-pays : Fine (align deeper)

@@ -2,7 +2,7 @@
 use Prim.Native.Nat.{ℕ, zero, suc}
 use mathlib.Core.List.{List, [], _∷_}
 use Rattle.rules.specs.Rule.{Rule, _>>_, _or-else_}
-use Rattle.rules.specs.Bytes.{multispace0, comment, skipping, skip-comments-and-whitespace, token, identifier, segment-name}
+use Rattle.rules.specs.Bytes.{multispace0, comment, skipping, skip-comments-and-whitespace, tag-skip, skip-tag-skip, token, identifier, segment-name}
 use Rattle.rules.specs.Keywords.{keyword}
 use Rattle.rules.specs.Numbers.{hex-uint, dec-uint, base-number, suffix, number-with-suffix}
 use Rattle.rules.specs.Expressions.{ladder, signed, signed-unless, comparison, operator, most-of, chain, rung, climb, Deeper, function-arg, named, align, least-or-greatest, quoted-segment, segment-head, segment-start, absolute, assert-message, assert, function, identifier-or-function, grouping, number, primary, prefix, unary, branches, ternary, levels, expression}
@@ -113,11 +113,10 @@ named-blind kind =
     seen-by (λ arg. add-blind _ _ _ _ _)
 
 pub assert-blind : (kind : ℕ) {e : Rule (Unit {0})} → Blind e → Blind (assert kind e)
-unfolding assert assert-message
+unfolding assert assert-message tag-skip skip-tag-skip
 assert-blind kind y =
-    here-blind seen-by (λ bracket. tag-blind _ then-blind skip-blind then-blind y
-    then-blind ((skip-blind then-blind tag-blind _) then-blind skip-blind then-blind token-blind seen-by (λ message. (skip-blind then-blind tag-blind _)
-    then-blind skip-blind then-blind give-blind _)) seen-by (λ message. add-blind _ _ _ _ _))
+    here-blind seen-by (λ bracket. (tag-blind _ then-blind skip-blind) then-blind y then-blind ((skip-blind then-blind tag-blind _ then-blind skip-blind) then-blind token-blind seen-by (λ message.
+    (skip-blind then-blind tag-blind _ then-blind skip-blind) then-blind give-blind _)) seen-by (λ message. add-blind _ _ _ _ _))
 
 module _ {deeper : Deeper} (x : Unseeing deeper) where
   align-blind : Blind (align deeper)

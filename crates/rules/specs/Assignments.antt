@@ -3,7 +3,7 @@ use Prim.Native.Nat.{ℕ}
 use mathlib.Core.Bool.{Bool, true, false}
 use lib.Dec.{eqb}
 use Rattle.rules.specs.Rule.{Rule, _>>=_, _>>_, if_then_else_, give, done, _or-else_, opt, add, word, not-here}
-use Rattle.rules.specs.Bytes.{skip, token}
+use Rattle.rules.specs.Bytes.{skip, token, word-skip, skip-word-skip, opt-word-skip}
 use Rattle.rules.specs.Expressions.{sign}
 use Rattle.rules.specs.declared.Token.{Token}
 
@@ -32,9 +32,12 @@ assignment-op name dot = (do
   target name dot
   give kind) or-else plain
 
--- the rest of AssignmentOp::expand: the operator of a compound sign, after its value
-unfoldable pub expand : (kind : ℕ) → Rule (Unit {0})
-expand kind = if eqb kind 0 then done else add kind 0 0 0 0
+-- the value after a sign, and the rest of AssignmentOp::expand: the operator of a compound sign
+unfoldable pub expand : (value : Rule (Unit {0})) → (kind : ℕ) → Rule (Unit {0})
+expand value kind = do
+  skip
+  value
+  if eqb kind 0 then done else add kind 0 0 0 0
 
 -- the location is set, or a symbol
 unfoldable pub assigned : Token → (dot : Bool) → Rule (Unit {0})
@@ -42,16 +45,10 @@ assigned name dot = if dot then add 48 0 0 0 0 else add 47 (name .start) (name .
 
 unfoldable pub provide : (hidden : ℕ) → (value : Rule (Unit {0})) → Rule (Unit {0})
 provide hidden value = do
-  word "("
-  skip
+  word-skip "("
   name ← token
-  skip
-  word "="
-  skip
+  skip-word-skip "="
   value
-  skip
-  word ")"
-  skip
-  opt (word ";")
-  skip
+  skip-word-skip ")"
+  opt-word-skip ";"
   add 49 (name .start) (name .len) hidden 0

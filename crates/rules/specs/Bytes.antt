@@ -4,7 +4,9 @@ use mathlib.Core.Bool.{Bool, true, false, not, _||_, _&&_}
 use lib.ListN.{getD}
 use lib.Dec.{eqb, leb}
 use Rattle.rules.specs.Text.{ascii, among}
-use Rattle.rules.specs.Rule.{Rule, _>>=_, _>>_, if_then_else_, give, done, fails, size, word, starts, take-while, pass-while, take-until, bytes}
+use mathlib.Core.List.{List}
+use Prim.Native.String.{String}
+use Rattle.rules.specs.Rule.{Rule, _>>=_, _>>_, if_then_else_, give, done, fails, opt, size, tag, word, starts, take-while, pass-while, take-until, bytes}
 use Rattle.rules.specs.declared.Token.{Token}
 
 -- multispace0
@@ -78,6 +80,44 @@ skip-comments-and-whitespace = do
 
 abbrev pub skip : Rule (Unit {0})
 skip = skip-comments-and-whitespace
+
+-- a text, and what is skipped after it, before it or on both sides; and one that may be missing
+unfoldable pub tag-skip : List ℕ → Rule (Unit {0})
+tag-skip w = tag w >> skip
+
+unfoldable pub skip-tag : List ℕ → Rule (Unit {0})
+skip-tag w = skip >> tag w
+
+unfoldable pub skip-tag-skip : List ℕ → Rule (Unit {0})
+skip-tag-skip w = do
+  skip
+  tag w
+  skip
+
+unfoldable pub opt-tag : List ℕ → Rule (Unit {0})
+opt-tag w = do
+  opt (tag w)
+  done
+
+unfoldable pub opt-tag-skip : List ℕ → Rule (Unit {0})
+opt-tag-skip w = do
+  opt (tag w)
+  skip
+
+abbrev pub word-skip : String → Rule (Unit {0})
+word-skip w = tag-skip (ascii w)
+
+abbrev pub skip-word : String → Rule (Unit {0})
+skip-word w = skip-tag (ascii w)
+
+abbrev pub skip-word-skip : String → Rule (Unit {0})
+skip-word-skip w = skip-tag-skip (ascii w)
+
+abbrev pub opt-word : String → Rule (Unit {0})
+opt-word w = opt-tag (ascii w)
+
+abbrev pub opt-word-skip : String → Rule (Unit {0})
+opt-word-skip w = opt-tag-skip (ascii w)
 
 unfoldable pub token : Rule Token
 token = do

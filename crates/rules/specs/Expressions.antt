@@ -5,7 +5,7 @@ use mathlib.Core.List.{List, [], _∷_}
 use mathlib.Core.Option.{Option, none, some}
 use Rattle.rules.specs.Text.{ascii}
 use Rattle.rules.specs.Rule.{Rule, _>>=_, _>>_, if_then_else_, give, done, fails, too-deep, _or-else_, opt, is-some, perhaps, here, size, add, tag, not-tag, word, starts}
-use Rattle.rules.specs.Bytes.{multispace0, skip-comments-and-whitespace, token, identifier, segment-name}
+use Rattle.rules.specs.Bytes.{multispace0, word-skip, skip-word-skip, token, identifier, segment-name}
 use Rattle.rules.specs.Keywords.{keyword, _is_}
 use Rattle.rules.specs.Numbers.{number-with-suffix}
 use Rattle.rules.specs.declared.Token.{Token}
@@ -170,23 +170,17 @@ module _ (deeper : Deeper) where
     add 27 0 0 0 0
 
 -- parse_assert, of an expression that is read as it is told: a function's argument opens a level, a command's does not
-abbrev pub skip-to : String → Rule (Unit {0})
-skip-to w = skip-comments-and-whitespace >> word w
-
 unfoldable pub assert-message : Rule Token
 assert-message = do
-  skip-to ","
-  skip-comments-and-whitespace
+  skip-word-skip ","
   message ← token
-  skip-to ")"
-  skip-comments-and-whitespace
+  skip-word-skip ")"
   give message
 
 unfoldable pub assert : (kind : ℕ) → (expression : Rule (Unit {0})) → Rule (Unit {0})
 assert kind expression = do
   bracket ← here
-  word "("
-  skip-comments-and-whitespace
+  word-skip "("
   expression
   message ← assert-message
   add kind (message .start) (message .len) bracket 0

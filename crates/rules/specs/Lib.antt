@@ -9,3 +9,4 @@ pub mod Assignments
 pub mod Contents
 pub mod Sections
 pub mod Commands
+pub mod Script

@@ -30,3 +30,31 @@ pub enum Row {
     Additive,
     Multiplicative,
 }
+
+// What stands before a section's `:`: whether a start expression, 1 or 0, and the number of an attribute, 0 for none.
+pub struct Heading {
+    pub start: usize,
+    pub attribute: usize,
+}
+
+// Which of FILEHDR and PHDRS stand behind a segment, and how many FLAGS.
+pub struct Segment {
+    pub filehdr: bool,
+    pub phdrs: bool,
+    pub flags: usize,
+}
+
+// The commands whose items stand in braces.
+pub enum Braced {
+    Sections,
+    Memory,
+    Phdrs,
+}
+
+// What is reported of a script: how many top-level commands it has, whether a VERSION is among them, and where the body of the first stands.
+pub struct Report {
+    pub commands: usize,
+    pub met: bool,
+    pub start: usize,
+    pub len: usize,
+}

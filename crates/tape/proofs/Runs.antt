@@ -13,7 +13,7 @@ use Rattle.rules.specs.Rule.{Rule, Held, Out, got, fail, deep, holds, more, _>>
 use Rattle.rules.proofs.Pays.{Fine, Paid, PaidOut}
 use Rattle.lex.specs.Contract.{Went, went, lost, sunk, Lexes, Moved}
 use Rattle.lex.specs.declared.Cursor.{Cursor}
-use Rattle.tape.specs.Contract.{Room, Pushed, stepped, shown, Came, CameTo, Reads}
+use Rattle.tape.specs.Contract.{Runs, Run, Room, Pushed, stepped, shown, Came, CameTo, Reads}
 use Rattle.tape.specs.declared.Step.{Step}
 use Rattle.tape.specs.declared.Step.the-variants as step
 use Rattle.tape.proofs.Step.{the-type}
@@ -24,16 +24,11 @@ use denote.Enum.Declared.{tagOf}
 pub fewer : (m n : ℕ) (t u : List ℕ) → m ≤ n → take n u ≡ take n t → take m u ≡ take m t
 fewer m n t u h e = sym (take-take m n u h) ∙ ap (take m) e ∙ take-take m n t h
 
--- what is said and kept, without what follows from the rule's law
-pub record Runs {A : Type 0} (rule : Rule A) (s t : List ℕ) (c : Cursor) (r : Went A) (t′ : List ℕ) : Type 0 where
-  pub said : rule .out s (c .at) (holds (c .count) t) ≡ shown t′ r
-  pub kept : take (5 * c .count) t′ ≡ take (5 * c .count) t
-
-pub runs : {A : Type 0} {rule : Rule A} {s t : List ℕ} {c : Cursor} {r : Went A} {t′ : List ℕ} → Reads rule s t c r t′ → Runs rule s t c r t′
+pub runs : {A : Type 0} {rule : Rule A} {s t : List ℕ} {c : Cursor} {r : Went A} {t′ : List ℕ} → Reads rule s t c r t′ → Run rule s t c r t′
 runs x = record { said = x .said; kept = x .kept }
 
 -- a rule that pays came within the script, with a byte for each record
-pub met : {A : Type 0} {rule : Rule A} {s t : List ℕ} {c : Cursor} {r : Went A} {t′ : List ℕ} → Fine rule → Room s t c → Runs rule s t c r t′ → Reads rule s t c r t′
+pub met : {A : Type 0} {rule : Rule A} {s t : List ℕ} {c : Cursor} {r : Went A} {t′ : List ℕ} → Fine rule → Room s t c → Run rule s t c r t′ → Reads rule s t c r t′
 met {A} {rule} {s} {t} {c} {r} {t′} fine room x = record { said = x .said; kept = x .kept; came = go r (x .said) }
   where
     go : (r : Went A) → rule .out s (c .at) (holds (c .count) t) ≡ shown t′ r → CameTo s c r
@@ -67,102 +62,105 @@ module _ {t : List ℕ} {c : Cursor} {r t₁ : List ℕ} {e : Cursor} (x : Pushe
 pub known-read : {R A : Type 0} {rule : Rule A} {s t : List ℕ} {c : Cursor} {t′ : List ℕ} (view : R → Went A) {r r′ : R} → Reads rule s t c (view r) t′ → r ≡ r′ → Reads rule s t c (view r′) t′
 known-read {rule = rule} {s} {t} {c} {t′} view x e = subst (λ r. Reads rule s t c (view r) t′) e x
 
+pub known-run : {R A : Type 0} {n : ℕ} {rule : Rule A} {s t : List ℕ} {c : Cursor} {t′ : List ℕ} (view : R → Went A) {r r′ : R} → Runs n rule s t c (view r) t′ → r ≡ r′ → Runs n rule s t c (view r′) t′
+known-run {n = n} {rule} {s} {t} {c} {t′} view x e = subst (λ r. Runs n rule s t c (view r) t′) e x
+
 module _ {s t : List ℕ} {c : Cursor} where
   -- AFTER BYTES, which hold what was held
   module _ {A B : Type 0} {m : Rule A} (n : A → Rule B) where
-    pub bytes-then : {a : A} {e : Cursor} {r : Went B} {t′ : List ℕ} → Lexes m s c (went a e) → Runs (n a) s t e r t′ → Runs (m >>= n) s t c r t′
+    pub bytes-then : {a : A} {e : Cursor} {r : Went B} {t′ : List ℕ} → Lexes m s c (went a e) → Run (n a) s t e r t′ → Run (m >>= n) s t c r t′
     unfolding _>>=_
     bytes-then {a} {e} {r} {t′} x y = let q : c .count ≡ e .count = sym (x .moved .count) in record {
       said = rw (x .said (holds (c .count) t), q) (y .said);
       kept = rw q (y .kept);
     }
 
-    pub bytes-stop : Lexes m s c lost → Runs (m >>= n) s t c lost t
+    pub bytes-stop : Lexes m s c lost → Run (m >>= n) s t c lost t
     unfolding _>>=_
     bytes-stop x = record { said = rw (x .said (holds (c .count) t)); kept = refl }
 
     -- AFTER A CALL
-    pub call-then : {a : A} {e : Cursor} {t₁ : List ℕ} {r : Went B} {t′ : List ℕ} → Reads m s t c (went a e) t₁ → Runs (n a) s t₁ e r t′ → Runs (m >>= n) s t c r t′
+    pub call-then : {a : A} {e : Cursor} {t₁ : List ℕ} {r : Went B} {t′ : List ℕ} → Reads m s t c (went a e) t₁ → Run (n a) s t₁ e r t′ → Run (m >>= n) s t c r t′
     unfolding _>>=_
     call-then {e = e} {t₁} {r} {t′} x y = record {
       said = rw (x .said) (y .said);
       kept = fewer (5 * c .count) (5 * e .count) t₁ t′ (let k = x .came in omega arith) (y .kept) ∙ x .kept;
     }
 
-    pub call-lost : {t₁ : List ℕ} → Reads m s t c lost t₁ → Runs (m >>= n) s t c lost t₁
+    pub call-lost : {t₁ : List ℕ} → Reads m s t c lost t₁ → Run (m >>= n) s t c lost t₁
     unfolding _>>=_
     call-lost x = record { said = rw (x .said); kept = x .kept }
 
-    pub call-sunk : {t₁ : List ℕ} → Reads m s t c sunk t₁ → Runs (m >>= n) s t c sunk t₁
+    pub call-sunk : {t₁ : List ℕ} → Reads m s t c sunk t₁ → Run (m >>= n) s t c sunk t₁
     unfolding _>>=_
     call-sunk x = record { said = rw (x .said); kept = x .kept }
 
   -- whichever of the two it is: what `let Step::Got(e) = r else { return r; };` leaves
-  pub call-stopped : {m : Rule (Unit {0})} (n : Unit {0} → Rule (Unit {0})) (r : Step) {t₁ : List ℕ} → Reads m s t c (stepped r) t₁ → OneOf (1 ∷ 2 ∷ []) (tagOf the-type r) → Runs (m >>= n) s t c (stepped r) t₁
+  pub call-stopped : {m : Rule (Unit {0})} (n : Unit {0} → Rule (Unit {0})) (r : Step) {t₁ : List ℕ} → Reads m s t c (stepped r) t₁ → OneOf (1 ∷ 2 ∷ []) (tagOf the-type r) → Run (m >>= n) s t c (stepped r) t₁
   call-stopped n (step.Got e) x w = absurd (miss (1 ∷ 2 ∷ []) 0 tt w)
   call-stopped n step.Fail x w = call-lost n x
   call-stopped n step.Deep x w = call-sunk n x
 
   module _ {A : Type 0} {r : Went A} {t′ : List ℕ} where
     -- tests
-    pub chosen-run : {m : Rule A} (n : Rule A) {b : Bool} → b ≡ true → Runs m s t c r t′ → Runs (if b then m else n) s t c r t′
+    pub chosen-run : {m : Rule A} (n : Rule A) {b : Bool} → b ≡ true → Run m s t c r t′ → Run (if b then m else n) s t c r t′
     unfolding if_then_else_
     chosen-run n e x = rw e x
 
-    pub other-run : (m : Rule A) {n : Rule A} {b : Bool} → b ≡ false → Runs n s t c r t′ → Runs (if b then m else n) s t c r t′
+    pub other-run : (m : Rule A) {n : Rule A} {b : Bool} → b ≡ false → Run n s t c r t′ → Run (if b then m else n) s t c r t′
     unfolding if_then_else_
     other-run m e x = rw e x
 
     -- tries
-    pub second-run : {m n : Rule A} → Lexes m s c lost → Runs n s t c r t′ → Runs (m or-else n) s t c r t′
+    pub second-run : {m n : Rule A} → Lexes m s c lost → Run n s t c r t′ → Run (m or-else n) s t c r t′
     unfolding _or-else_
     second-run x y = record { said = rw (x .said (holds (c .count) t)) (y .said); kept = y .kept }
 
-    pub second-call : {m n : Rule A} {t₁ : List ℕ} → Runs m s t c lost t₁ → Runs n s t₁ c r t′ → Runs (m or-else n) s t c r t′
+    pub second-call : {m n : Rule A} {t₁ : List ℕ} → Run m s t c lost t₁ → Run n s t₁ c r t′ → Run (m or-else n) s t c r t′
     unfolding _or-else_
     second-call x y = record { said = rw (x .said, ← x .kept) (y .said); kept = y .kept ∙ x .kept }
 
-  pub first-run : {A : Type 0} {m : Rule A} (n : Rule A) {a : A} {e : Cursor} {t′ : List ℕ} → Runs m s t c (went a e) t′ → Runs (m or-else n) s t c (went a e) t′
+  pub first-run : {A : Type 0} {m : Rule A} (n : Rule A) {a : A} {e : Cursor} {t′ : List ℕ} → Run m s t c (went a e) t′ → Run (m or-else n) s t c (went a e) t′
   unfolding _or-else_
   first-run n x = record { said = rw (x .said); kept = x .kept }
 
-  pub sunk-run : {A : Type 0} {m : Rule A} (n : Rule A) {t′ : List ℕ} → Runs m s t c sunk t′ → Runs (m or-else n) s t c sunk t′
+  pub sunk-run : {A : Type 0} {m : Rule A} (n : Rule A) {t′ : List ℕ} → Run m s t c sunk t′ → Run (m or-else n) s t c sunk t′
   unfolding _or-else_
   sunk-run n x = record { said = rw (x .said); kept = x .kept }
 
   -- bytes that end a rule
-  pub as-bytes : {A : Type 0} {m : Rule A} {a : A} {e : Cursor} → Lexes m s c (went a e) → Runs m s t c (went a e) t
+  pub as-bytes : {A : Type 0} {m : Rule A} {a : A} {e : Cursor} → Lexes m s c (went a e) → Run m s t c (went a e) t
   as-bytes {a = a} {e} x = let q : c .count ≡ e .count = sym (x .moved .count) in record { said = x .said (holds (c .count) t) ∙ ap (λ n. got a (e .at) (holds n t)) q; kept = refl }
 
-  pub as-lost : {A : Type 0} {m : Rule A} → Lexes m s c lost → Runs m s t c lost t
+  pub as-lost : {A : Type 0} {m : Rule A} → Lexes m s c lost → Run m s t c lost t
   as-lost x = record { said = x .said (holds (c .count) t); kept = refl }
 
-  pub as-read : {A : Type 0} {m : Rule A} (r : Went A) → Lexes m s c r → Runs m s t c r t
+  pub as-read : {A : Type 0} {m : Rule A} (r : Went A) → Lexes m s c r → Run m s t c r t
   as-read (went a e) x = as-bytes x
   as-read lost x = as-lost x
   as-read sunk x = record { said = x .said (holds (c .count) t); kept = refl }
 
   -- a test, and what follows both its ways
   module _ {A B : Type 0} (k : A → Rule B) {r : Went B} {t′ : List ℕ} where
-    pub chosen-then : (m n : Rule A) {b : Bool} → b ≡ true → Runs (m >>= k) s t c r t′ → Runs ((if b then m else n) >>= k) s t c r t′
+    pub chosen-then : (m n : Rule A) {b : Bool} → b ≡ true → Run (m >>= k) s t c r t′ → Run ((if b then m else n) >>= k) s t c r t′
     unfolding if_then_else_
     chosen-then m n e x = rw e x
 
-    pub other-then : (m n : Rule A) {b : Bool} → b ≡ false → Runs (n >>= k) s t c r t′ → Runs ((if b then m else n) >>= k) s t c r t′
+    pub other-then : (m n : Rule A) {b : Bool} → b ≡ false → Run (n >>= k) s t c r t′ → Run ((if b then m else n) >>= k) s t c r t′
     unfolding if_then_else_
     other-then m n e x = rw e x
 
-  pub sinks-here : {A : Type 0} → Runs {A = A} too-deep s t c sunk t
+  pub sinks-here : {A : Type 0} → Run {A = A} too-deep s t c sunk t
   unfolding too-deep
   sinks-here = record { said = refl; kept = refl }
 
   -- AFTER A RECORD
   module _ (k a₁ a₂ a₃ a₄ : ℕ) {t₁ : List ℕ} {e : Cursor} (x : Pushed t c (k ∷ a₁ ∷ a₂ ∷ a₃ ∷ a₄ ∷ []) t₁ e) (room : 5 * c .count + 5 ≤ length t) where
-    pub added : Runs (add k a₁ a₂ a₃ a₄) s t c (went tt e) t₁
+    pub added : Run (add k a₁ a₂ a₃ a₄) s t c (went tt e) t₁
     unfolding add
     added = record { said = rw (x .at) (ap (got tt (c .at)) (one-more x refl room)); kept = still-there x refl room }
 
-    pub added-then : {B : Type 0} (n : Unit {0} → Rule B) {r : Went B} {t′ : List ℕ} → Runs (n tt) s t₁ e r t′ → Runs (add k a₁ a₂ a₃ a₄ >>= n) s t c r t′
+    pub added-then : {B : Type 0} (n : Unit {0} → Rule B) {r : Went B} {t′ : List ℕ} → Run (n tt) s t₁ e r t′ → Run (add k a₁ a₂ a₃ a₄ >>= n) s t c r t′
     unfolding _>>=_ add
     added-then n {r} {t′} y = record {
       said = rw (one-more x refl room, ← x .at) (y .said);

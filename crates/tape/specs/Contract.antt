@@ -9,11 +9,24 @@ use Rattle.lex.specs.Contract.{Went, went, lost, sunk}
 use Rattle.lex.specs.declared.Cursor.{Cursor}
 use Rattle.tape.specs.declared.Step.{Step}
 use Rattle.tape.specs.declared.Step.the-variants as step
+use Rattle.tape.specs.declared.Counted.{Counted}
+use Rattle.tape.specs.declared.Counted.the-variants as counting
 
 abbrev pub stepped : Step → Went (Unit {0})
 stepped (step.Got e) = went tt e
 stepped step.Fail = lost
 stepped step.Deep = sunk
+
+abbrev pub counted : Counted → Went ℕ
+counted (counting.Got n e) = went n e
+counted counting.Fail = lost
+counted counting.Deep = sunk
+
+-- where the same reading went, with another value
+abbrev pub valued : {A B : Type 0} → B → Went A → Went B
+valued b (went a e) = went b e
+valued b lost = lost
+valued b sunk = sunk
 
 -- the tape has room for a record for each byte of the script, and holds no more records than bytes were read
 pub record Room (s t : List ℕ) (c : Cursor) : Type 0 where
@@ -46,8 +59,17 @@ CameTo s c (went a e) = Came s c e
 CameTo s c lost = Unit {0}
 CameTo s c sunk = Unit {0}
 
--- the rule, from the cursor c and the records of the tape t on, goes where r says and leaves the records of the tape t′; the words below those
--- of the entry's records stay, whatever the answer
+-- the rule, from the cursor c and the records of the tape t on, goes where r says and leaves the records of the tape t′; the words of the first
+-- n records stay, whatever the answer
+pub record Runs {A : Type 0} (n : ℕ) (rule : Rule A) (s t : List ℕ) (c : Cursor) (r : Went A) (t′ : List ℕ) : Type 0 where
+  pub said : rule .out s (c .at) (holds (c .count) t) ≡ shown t′ r
+  pub kept : take (5 * n) t′ ≡ take (5 * n) t
+
+-- the same, where the words of the records at the entry stay; a rule that is short of a byte for a record shows no more
+abbrev pub Run : {A : Type 0} → Rule A → (s t : List ℕ) → Cursor → Went A → List ℕ → Type 0
+Run rule s t c r t′ = Runs (c .count) rule s t c r t′
+
+-- and a byte was read for each record that was added
 pub record Reads {A : Type 0} (rule : Rule A) (s t : List ℕ) (c : Cursor) (r : Went A) (t′ : List ℕ) : Type 0 where
   pub said : rule .out s (c .at) (holds (c .count) t) ≡ shown t′ r
   pub kept : take (5 * c .count) t′ ≡ take (5 * c .count) t

@@ -4,7 +4,7 @@ ghost use Prim.Native.Nat.{_+_, _*_, _-_, _≤_};
 ghost use mathlib.Core.List.{_++_, _∷_, []};
 ghost use lib.ListN.{length, take, replicate};
 ghost use lib.Seq.{sets};
-ghost use Rattle.tape.specs.Contract.{Pushed};
+ghost use Rattle.tape.specs.Contract.{Pushed, valued, stepped, counted as counted-went};
 use lex::Cursor;
 
 // What a reading function answers.
@@ -12,6 +12,39 @@ pub enum Step {
     Got(Cursor),
     Fail,
     Deep,
+}
+
+// What reading a list answers: how many items it has.
+pub enum Counted {
+    Got(usize, Cursor),
+    Fail,
+    Deep,
+}
+
+impl Step {
+    // The same answer, with a number.
+    pub fn counted(self, n: usize) -> Counted
+        ensures { λ r. ⌜ counted-went r ≡ valued n (stepped self) ⌝ }
+    {
+        match self {
+            Step::Got(e) => Counted::Got(n, e),
+            Step::Fail => Counted::Fail,
+            Step::Deep => Counted::Deep,
+        }
+    }
+}
+
+impl Counted {
+    // The same answer, without its number.
+    pub fn step(self) -> Step
+        ensures { λ r. ⌜ stepped r ≡ valued tt (counted-went self) ⌝ }
+    {
+        match self {
+            Counted::Got(_, e) => Step::Got(e),
+            Counted::Fail => Step::Fail,
+            Counted::Deep => Step::Deep,
+        }
+    }
 }
 
 // Writes the record after the first count records.

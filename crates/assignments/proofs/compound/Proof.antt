@@ -1,20 +1,20 @@
 -- The pairs of signs are tried in their order.
 use mathlib.Core.Path.{sym}
 use borrow.Author.Needs.{needs}
-use Rattle.rules.specs.Assignments.{compound as compound-rule}
+use Rattle.rules.specs.Assignments.{compound}
 use Rattle.lex.proofs.Lexes.{known, first, second, given}
 use Rattle.operators.specs.Answers.{operated}
 use Rattle.assignments.proofs.compound.Statement.{statement}
 use Rattle.assignments.proofs.compound.Tie as tie
 
 returns : tie.Need-returns
-unfolding compound-rule
+unfolding compound
 returns c =
     let enum-told2 = c .enum-told2 in
     known operated (first _ (known operated (c .before .before .sign-of-two .ensures) (enum-told2 .given .1))) (sym (enum-told2 .given .1))
 
 returns-2 : tie.Need-returns-2
-unfolding compound-rule
+unfolding compound
 returns-2 c =
     let sign-of-two = c .before .before .before .before .before .before .before .sign-of-two in
     let enum-told = c .before .before .before .before .before .enum-told in
@@ -22,7 +22,7 @@ returns-2 c =
     known operated (second (known operated (sign-of-two .ensures) (enum-told .given .1)) (first _ (known operated (c .before .before .sign-of-two2 .ensures) (enum-told4 .given .1)))) (sym (enum-told4 .given .1))
 
 returns-3 : tie.Need-returns-3
-unfolding compound-rule
+unfolding compound
 returns-3 c =
     let sign-of-two = c .before .before .before .before .before .before .before .before .before .before .before .before .sign-of-two in
     let enum-told = c .before .before .before .before .before .before .before .before .before .before .enum-told in
@@ -32,7 +32,7 @@ returns-3 c =
     known operated (second (known operated (sign-of-two .ensures) (enum-told .given .1)) (second (known operated (sign-of-two2 .ensures) (enum-told3 .given .1)) (first _ (known operated (c .before .before .sign-of-two3 .ensures) (enum-told6 .given .1))))) (sym (enum-told6 .given .1))
 
 returns-4 : tie.Need-returns-4
-unfolding compound-rule
+unfolding compound
 returns-4 c =
     let sign-of-two = c .before .before .before .before .before .before .before .before .before .before .before .before .before .before .before .before .before .sign-of-two in
     let enum-told = c .before .before .before .before .before .before .before .before .before .before .before .before .before .before .before .enum-told in
@@ -44,7 +44,7 @@ returns-4 c =
     known operated (second (known operated (sign-of-two .ensures) (enum-told .given .1)) (second (known operated (sign-of-two2 .ensures) (enum-told3 .given .1)) (second (known operated (sign-of-two3 .ensures) (enum-told5 .given .1)) (first _ (known operated (c .before .before .sign-of-two4 .ensures) (enum-told8 .given .1)))))) (sym (enum-told8 .given .1))
 
 returns-5 : tie.Need-returns-5
-unfolding compound-rule
+unfolding compound
 returns-5 c =
     let sign-of-two = c .before .before .before .before .before .before .before .before .before .before .before .before .before .before .before .before .before .before .before .sign-of-two in
     let enum-told = c .before .before .before .before .before .before .before .before .before .before .before .before .before .before .before .before .before .enum-told in

@@ -16,72 +16,52 @@ use Rattle.ladder.proofs.+absolute+align+asserted+atom+branches+chain+e
 use Rattle.ladder.proofs.asserted.Reads as asserted
 use Rattle.ladder.proofs.inner.Reads as inner
 use Rattle.ladder.proofs.parts.message.Reads as message-reads
-use Rattle.lex.proofs.Cursor.skip.Reads as skip-reads
-use Rattle.lex.proofs.Cursor.word.Reads as word-reads
+use Rattle.lex.proofs.Cursor.word_skip.Reads as word-skip-reads
 use Rattle.tape.proofs.push.Reads as push-reads
 use Rattle.ladder.proofs.+absolute+align+asserted+atom+branches+chain+extreme+function+grouping+ident+inner+operand+primary+rung+segment+ternary+unary.Lts-asserted as lts
 
 -- what the functions that `asserted` calls ask and show
 abbrev pub callees : ℕ → lts.Claims
 callees t =
-    (word-reads.Asked, word-reads.Learnt, skip-reads.Asked, skip-reads.Learnt, inner-below t, inner.Post, message-reads.Asked, message-reads.Learnt, push-reads.Asked, push-reads.Learnt)
+    (word-skip-reads.Asked, word-skip-reads.Learnt, inner-below t, inner.Post, message-reads.Asked, message-reads.Learnt, push-reads.Asked, push-reads.Learnt)
 
 module _ (t : ℕ) where
   -- the way to a place, with so many bytes that have no record yet
   abbrev Along : lts.Start (callees t) (asserted-at t) asserted.Post → ℕ → List ℕ → Cursor → Type 0
   Along c = Way (rule.assert 39 ((levels (c .args .mode) (c .args .left)) .expressions)) (c .args .script .now) (c .args .tape .now) (c .args .c)
 
-  abbrev at-opened : (c : lts.After-opened (callees t) (asserted-at t) asserted.Post) → let start = c .before .before .before .before .before .before in Along (c .before .before .before .before .before .before) 0 (start .args .tape .now) (c .opened .given .0 .0)
+  abbrev at-opened : (c : lts.After-opened (callees t) (asserted-at t) asserted.Post) → Along (c .before .before .before .before .before .before) 0 (c .before .before .before .before .before .before .args .tape .now) (c .opened .given .0 .0)
   unfolding rule.assert
-  at-opened c =
-      let start = c .before .before .before .before .before .before in
-      bytes _ (bytes _ (enter (assert-pays 39 ((levels-sound (start .args .mode) (start .args .left)) .expressions)) (start .pre .1)) refl (here-at)) refl (known read (c .before .before .word .ensures) (c .opened .given .1))
+  at-opened c = bytes _ (bytes _ (enter (assert-pays 39 ((levels-sound (c .before .before .before .before .before .before .args .mode) (c .before .before .before .before .before .before .args .left)) .expressions)) (c .before .before .before .before .before .before .pre .1)) refl (here-at)) refl (known read (c .before .before .word-skip .ensures) (c .opened .given .1))
 
-  abbrev at-blanks : (c : lts.After-blanks (callees t) (asserted-at t) asserted.Post) → let start = c .before .before .before .before .before .before .before .before .before .before in Along (c .before .before .before .before .before .before .before .before .before .before) 0 (start .args .tape .now) (c .blanks .given .0 .0)
+  abbrev at-value : (c : lts.After-value (callees t) (asserted-at t) asserted.Post) → Along (c .before .before .before .before .before .before .before .before .before .before .before .before .before) 0 (c .before .before .before .before .inner .last .1 .0) (c .value .given .0 .0)
   unfolding rule.assert
-  at-blanks c = bytes _ (at-opened (c .before .before .before .before)) refl (known read (c .before .before .skip .ensures) (c .blanks .given .1))
+  at-value c = called _ (at-opened (c .before .before .before .before .before .before .before)) refl (known-read stepped (c .before .before .before .before .inner .ensures) (c .value .given .1)) (c .before .before .before .before .inner .kept .1 .0)
 
-  abbrev at-value : (c : lts.After-value (callees t) (asserted-at t) asserted.Post) → let inner = c .before .before .before .before .inner in Along (c .before .before .before .before .before .before .before .before .before .before .before .before .before .before .before .before .before) 0 (inner .last .1 .0) (c .value .given .0 .0)
-  unfolding rule.assert
-  at-value c =
-      let inner = c .before .before .before .before .inner in
-      called _ (at-blanks (c .before .before .before .before .before .before .before)) refl (known-read stepped (inner .ensures) (c .value .given .1)) (inner .kept .1 .0)
-
-  abbrev at-text : (c : lts.After-text (callees t) (asserted-at t) asserted.Post) → let inner = c .before .before .before .before .before .before .before .before .inner in Along (c .before .before .before .before .before .before .before .before .before .before .before .before .before .before .before .before .before .before .before .before .before) 1 (inner .last .1 .0) (c .text .given .0 .1 .0)
+  abbrev at-text : (c : lts.After-text (callees t) (asserted-at t) asserted.Post) → Along (c .before .before .before .before .before .before .before .before .before .before .before .before .before .before .before .before .before) 1 (c .before .before .before .before .before .before .before .before .inner .last .1 .0) (c .text .given .0 .1 .0)
   unfolding rule.assert
   at-text c = earning _ assert-message-pays (at-value (c .before .before .before .before)) refl (known taken (c .before .before .message .ensures) (c .text .given .1))
 
   pub returns : lts.Need-returns (callees t) (asserted-at t) asserted.Post
   unfolding rule.assert
-  returns c =
-      let start = c .before .before .before .before .before .before in
-      lost-here _ (bytes _ (enter (assert-pays 39 ((levels-sound (start .args .mode) (start .args .left)) .expressions)) (start .pre .1)) refl (here-at)) refl (known read (c .before .before .word .ensures) (c .enum-told .given .1))
+  returns c = lost-here _ (bytes _ (enter (assert-pays 39 ((levels-sound (c .before .before .before .before .before .before .args .mode) (c .before .before .before .before .before .before .args .left)) .expressions)) (c .before .before .before .before .before .before .pre .1)) refl (here-at)) refl (known read (c .before .before .word-skip .ensures) (c .enum-told .given .1))
+
+  pub inner-requires : lts.Need-inner-requires (callees t) (asserted-at t) asserted.Post
+  inner-requires c κs = (omega (arith, c .before .before .before .before .before .before .before .before .pre .0), (at-opened (c .before .before)) .room)
+
+  pub same-length : lts.Need-same-length (callees t) (asserted-at t) asserted.Post
+  same-length c = c .before .before .before .inner .kept .1 .0 ∙ (at-opened (c .before .before .before .before .before .before)) .size
 
   pub returns-2 : lts.Need-returns-2 (callees t) (asserted-at t) asserted.Post
   unfolding rule.assert
-  returns-2 c = lost-here _ (at-opened (c .before .before .before .before)) refl (known read (c .before .before .skip .ensures) (c .enum-told2 .given .1))
-
-  pub inner-requires : lts.Need-inner-requires (callees t) (asserted-at t) asserted.Post
-  inner-requires c κs =
-      let start = c .before .before .before .before .before .before .before .before .before .before .before .before in
-      (omega (arith, start .pre .0), (at-blanks (c .before .before)) .room)
-
-  pub same-length : lts.Need-same-length (callees t) (asserted-at t) asserted.Post
-  same-length c = c .before .before .before .inner .kept .1 .0 ∙ (at-blanks (c .before .before .before .before .before .before)) .size
-
-  pub returns-3 : lts.Need-returns-3 (callees t) (asserted-at t) asserted.Post
-  unfolding rule.assert
-  returns-3 c =
-      let inner = c .before .before .before .inner in
-      stops-here _ (at-blanks (c .before .before .before .before .before .before)) refl (inner .result) (inner .ensures) (c .match3 .keys2)
+  returns-2 c = stops-here _ (at-opened (c .before .before .before .before .before .before)) refl (c .before .before .before .inner .result) (c .before .before .before .inner .ensures) (c .match2 .keys2)
 
   pub same-length-2 : lts.Need-same-length-2 (callees t) (asserted-at t) asserted.Post
   same-length-2 c = (at-value (c .before .before .before .before)) .size
 
-  pub returns-4 : lts.Need-returns-4 (callees t) (asserted-at t) asserted.Post
+  pub returns-3 : lts.Need-returns-3 (callees t) (asserted-at t) asserted.Post
   unfolding rule.assert
-  returns-4 c =
-      lost-here _ (at-value (c .before .before .before .before)) refl (known taken (c .before .before .message .ensures) (c .enum-told3 .given .1))
+  returns-3 c = lost-here _ (at-value (c .before .before .before .before)) refl (known taken (c .before .before .message .ensures) (c .enum-told2 .given .1))
 
   pub push-requires : lts.Need-push-requires (callees t) (asserted-at t) asserted.Post
   push-requires c κs = can-push (at-text (c .before .before))
@@ -89,7 +69,6 @@ module _ (t : ℕ) where
   pub same-length-3 : lts.Need-same-length-3 (callees t) (asserted-at t) asserted.Post
   same-length-3 c = c .before .before .push .kept .0 ∙ (at-text (c .before .before .before .before .before)) .size
 
-  pub returns-5 : lts.Need-returns-5 (callees t) (asserted-at t) asserted.Post
+  pub returns-4 : lts.Need-returns-4 (callees t) (asserted-at t) asserted.Post
   unfolding rule.assert
-  returns-5 c =
-      ends-here (at-text (c .before .before .before .before .before)) (added _ _ _ _ _ (c .before .before .push .ensures) (can-push (at-text (c .before .before .before .before .before))))
+  returns-4 c = ends-here (at-text (c .before .before .before .before .before)) (added _ _ _ _ _ (c .before .before .push .ensures) (can-push (at-text (c .before .before .before .before .before))))

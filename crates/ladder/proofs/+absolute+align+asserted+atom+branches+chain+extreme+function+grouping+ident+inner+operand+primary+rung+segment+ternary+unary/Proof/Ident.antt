@@ -10,7 +10,7 @@ use Rattle.rules.proofs.Expressions.{levels-sound, identifier-or-function-pays}
 use Rattle.lex.specs.Contract.{taken}
 use Rattle.lex.proofs.Lexes.{known, asked, earned, keyed}
 use Rattle.tape.proofs.Runs.{met, runs, bytes-then, bytes-stop, chosen-run, other-run, added, space}
-use Rattle.ladder.proofs.Names.{dot, no-dot, headers, no-headers}
+use Rattle.keywords.proofs.Names.{dot, no-dot, headers, no-headers}
 use Rattle.lex.proofs.Name.{identifier-bytes}
 use Rattle.ladder.proofs.+absolute+align+asserted+atom+branches+chain+extreme+function+grouping+ident+inner+operand+primary+rung+segment+ternary+unary.Proof.Common.{ident-at, function-below}
 use Rattle.ladder.proofs.ident.Reads as ident

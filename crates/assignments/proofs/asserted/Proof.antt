@@ -1,0 +1,84 @@
+-- The message pays for the record.
+use mathlib.Core.Path.{refl, _∙_}
+use Prim.Native.Nat.{ℕ}
+use mathlib.Core.List.{List}
+use Rattle.rules.specs.Expressions.{expression, assert}
+use Rattle.rules.specs.Assignments as rule
+use Rattle.rules.proofs.Expressions.{expression-pays, assert-message-pays, assert-pays}
+use Rattle.lex.specs.Contract.{read, taken}
+use Rattle.lex.specs.declared.Cursor.{Cursor}
+use Rattle.lex.proofs.Lexes.{known, given, here-at}
+use Rattle.tape.specs.Contract.{stepped}
+use Rattle.tape.proofs.Runs.{known-read, runs, added}
+use Rattle.tape.proofs.Way.{Way, enter, bytes, earning, called, can-push, lost-here, ends-here, halts, not-stepped, as-it-is}
+use borrow.Author.Needs.{needs}
+use Rattle.assignments.proofs.asserted.Statement.{statement}
+use Rattle.assignments.proofs.asserted.Tie as tie
+
+abbrev Along : tie.Start → ℕ → List ℕ → Cursor → Type 0
+Along start = Way (assert 50 (expression (start .args .mode) (start .args .left))) (start .args .script .now) (start .args .tape .now) (start .args .c)
+
+abbrev at-opened : (c : tie.After-opened) → Along (c .before .before .before .before .before .before) 0 (c .before .before .before .before .before .before .args .tape .now) (c .opened .given .0 .0)
+unfolding assert
+at-opened c = bytes _ (bytes _ (enter (assert-pays 50 (expression-pays (c .before .before .before .before .before .before .args .mode) (c .before .before .before .before .before .before .args .left))) (c .before .before .before .before .before .before .pre)) refl here-at) refl (known read (c .before .before .word-skip .ensures) (c .opened .given .1))
+
+abbrev at-value : (c : tie.After-value) → Along (c .before .before .before .before .before .before .before .before .before .before .before .before .before) 0 (c .before .before .before .before .expression .last .1 .0) (c .value .given .0 .0)
+unfolding assert
+at-value c = called _ (at-opened (c .before .before .before .before .before .before .before)) refl (known-read stepped (c .before .before .before .before .expression .ensures) (c .value .given .1)) (c .before .before .before .before .expression .kept .1 .0)
+
+abbrev at-text : (c : tie.After-text) → Along (c .before .before .before .before .before .before .before .before .before .before .before .before .before .before .before .before .before) 1 (c .before .before .before .before .before .before .before .before .expression .last .1 .0) (c .text .given .0 .1 .0)
+unfolding assert
+at-text c = earning _ assert-message-pays (at-value (c .before .before .before .before)) refl (known taken (c .before .before .message .ensures) (c .text .given .1))
+
+returns : tie.Need-returns
+unfolding assert
+returns c = lost-here _ (bytes _ (enter (assert-pays 50 (expression-pays (c .before .before .before .before .before .before .args .mode) (c .before .before .before .before .before .before .args .left))) (c .before .before .before .before .before .before .pre)) refl here-at) refl (known read (c .before .before .word-skip .ensures) (c .enum-told .given .1))
+
+expression-requires : tie.Need-expression-requires
+expression-requires c κs = (at-opened (c .before .before)) .room
+
+same-length : tie.Need-same-length
+same-length c = c .before .before .before .expression .kept .1 .0 ∙ (at-opened (c .before .before .before .before .before .before)) .size
+
+returns-2 : tie.Need-returns-2
+unfolding assert
+returns-2 c = halts _ (at-opened (c .before .before .before .before .before .before)) refl (not-stepped (c .before .before .before .expression .result) (c .match2 .keys2)) (runs (c .before .before .before .expression .ensures)) tt (as-it-is (stepped (c .before .before .before .expression .result)))
+
+same-length-2 : tie.Need-same-length-2
+same-length-2 c = (at-value (c .before .before .before .before)) .size
+
+returns-3 : tie.Need-returns-3
+unfolding assert
+returns-3 c = lost-here _ (at-value (c .before .before .before .before)) refl (known taken (c .before .before .message .ensures) (c .enum-told2 .given .1))
+
+push-requires : tie.Need-push-requires
+push-requires c κs = can-push (at-text (c .before .before))
+
+same-length-3 : tie.Need-same-length-3
+same-length-3 c = c .before .before .push .kept .0 ∙ (at-text (c .before .before .before .before .before)) .size
+
+returns-4 : tie.Need-returns-4
+unfolding assert
+returns-4 c = ends-here (at-text (c .before .before .before .before .before)) (added _ _ _ _ _ (c .before .before .push .ensures) (can-push (at-text (c .before .before .before .before .before))))
+
+pub asserted-spec : {M : Type 1} → statement M
+asserted-spec =
+    tie.close
+    (tie.spec
+    (λ c. search needs)
+    (λ c κs. search needs)
+    (λ c. search needs)
+    (λ c. search needs)
+    returns
+    expression-requires
+    (λ c. search needs)
+    same-length
+    returns-2
+    (λ c κs. search needs)
+    (λ c. search needs)
+    (λ c. search needs)
+    same-length-2
+    returns-3
+    push-requires
+    same-length-3
+    returns-4)

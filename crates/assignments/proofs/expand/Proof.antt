@@ -1,0 +1,84 @@
+-- The operator costs the byte that the sign has read.
+use mathlib.Core.Path.{refl, _∙_}
+use Prim.Native.Nat.{ℕ}
+use mathlib.Core.List.{List}
+use borrow.Author.Tests.{eq-eqb, ne-eqb}
+use Rattle.rules.specs.Expressions.{expression}
+use Rattle.rules.specs.Assignments as rule
+use Rattle.lex.specs.Contract.{read, taken}
+use Rattle.lex.specs.declared.Cursor.{Cursor}
+use Rattle.lex.proofs.Lexes.{known, given}
+use Rattle.tape.specs.Contract.{stepped}
+use Rattle.tape.proofs.Runs.{known-read, runs, added, as-bytes}
+use Rattle.tape.proofs.Way.{Short, enter-short, bytes, called, can-push, lost-here, ends-here, halts, not-stepped, as-it-is, where-so, where-not}
+use borrow.Author.Needs.{needs}
+use Rattle.assignments.proofs.expand.Statement.{statement}
+use Rattle.assignments.proofs.expand.Tie as tie
+
+abbrev Along : tie.Start → ℕ → List ℕ → Cursor → Type 0
+Along start = Short (rule.expand (expression (start .args .mode) (start .args .left)) (start .args .kind)) (start .args .script .now) (start .args .tape .now) (start .args .c)
+
+abbrev at-skipped : (c : tie.After-skipped) → Along (c .before .before .before .before .before) 1 (c .before .before .before .before .before .args .tape .now) (c .skipped .given .0 .0)
+unfolding rule.expand
+at-skipped c = bytes _ (enter-short (c .before .before .before .before .before .pre .0) (c .before .before .before .before .before .pre .1)) refl (known read (c .before .before .skip .ensures) (c .skipped .given .1))
+
+abbrev at-value : (c : tie.After-value) → Along (c .before .before .before .before .before .before .before .before .before .before .before .before) 1 (c .before .before .before .before .expression .last .1 .0) (c .value .given .0 .0)
+unfolding rule.expand
+at-value c = called _ (at-skipped (c .before .before .before .before .before .before .before)) refl (known-read stepped (c .before .before .before .before .expression .ensures) (c .value .given .1)) (c .before .before .before .before .expression .kept .1 .0)
+
+abbrev at-if1 : (c : tie.Then1) → Along (c .before .before .before .before .before .before .before .before .before .before .before .before .before .before) 1 (c .before .before .before .before .before .before .expression .last .1 .0) (c .before .before .value .given .0 .0)
+unfolding rule.expand
+at-if1 c = where-so (at-value (c .before .before)) _ _ refl (eq-eqb _ _ (c .if1 .taken))
+
+abbrev at-if1-left : (c : tie.Else1) → Along (c .before .before .before .before .before .before .before .before .before .before .before .before .before .before) 1 (c .before .before .before .before .before .before .expression .last .1 .0) (c .before .before .value .given .0 .0)
+unfolding rule.expand
+at-if1-left c = where-not (at-value (c .before .before)) _ _ refl (ne-eqb _ _ (c .if1 .left))
+
+returns : tie.Need-returns
+unfolding rule.expand
+returns c = lost-here _ (enter-short (c .before .before .before .before .before .pre .0) (c .before .before .before .before .before .pre .1)) refl (known read (c .before .before .skip .ensures) (c .enum-told .given .1))
+
+expression-requires : tie.Need-expression-requires
+expression-requires c κs = (at-skipped (c .before .before)) .room
+
+same-length : tie.Need-same-length
+same-length c = c .before .before .before .expression .kept .1 .0 ∙ (at-skipped (c .before .before .before .before .before .before)) .size
+
+returns-2 : tie.Need-returns-2
+unfolding rule.expand
+returns-2 c = halts _ (at-skipped (c .before .before .before .before .before .before)) refl (not-stepped (c .before .before .before .expression .result) (c .match2 .keys2)) (runs (c .before .before .before .expression .ensures)) tt (as-it-is (stepped (c .before .before .before .expression .result)))
+
+same-length-2 : tie.Need-same-length-2
+same-length-2 c = (at-if1 c) .size
+
+returns-3 : tie.Need-returns-3
+unfolding rule.expand
+returns-3 c = ends-here (at-if1 c) (as-bytes (given _))
+
+push-requires : tie.Need-push-requires
+push-requires c κs = can-push (at-if1-left (c .before))
+
+same-length-3 : tie.Need-same-length-3
+same-length-3 c = c .before .before .push .kept .0 ∙ (at-if1-left (c .before .before .before .before)) .size
+
+returns-4 : tie.Need-returns-4
+unfolding rule.expand
+returns-4 c = ends-here (at-if1-left (c .before .before .before .before)) (added _ _ _ _ _ (c .before .before .push .ensures) (can-push (at-if1-left (c .before .before .before .before))))
+
+pub expand-spec : {M : Type 1} → statement M
+expand-spec =
+    tie.close
+    (tie.spec
+    (λ c κs. search needs)
+    (λ c. search needs)
+    (λ c. search needs)
+    returns
+    expression-requires
+    (λ c. search needs)
+    same-length
+    returns-2
+    same-length-2
+    returns-3
+    push-requires
+    same-length-3
+    returns-4)

@@ -1,0 +1,96 @@
+-- The brace pays for the record.
+use mathlib.Core.Path.{refl, sym, ap, _∙_}
+use Prim.Native.Nat.{ℕ}
+use native.Mathlib.Omega.{arith}
+use mathlib.Core.List.{List}
+use Rattle.rules.specs.Text.{ascii}
+use Rattle.rules.specs.Expressions.{expression}
+use Rattle.rules.specs.Commands as rule
+use Rattle.rules.proofs.Bytes.{tag-skip-earns}
+use Rattle.rules.proofs.Expressions.{expression-pays}
+use Rattle.rules.proofs.Commands.{braced-pays}
+use Rattle.lex.specs.Contract.{read}
+use Rattle.lex.specs.declared.Cursor.{Cursor}
+use Rattle.lex.proofs.Lexes.{known, given}
+use Rattle.tape.specs.Contract.{counted}
+use Rattle.tape.proofs.Runs.{known-read, runs, added}
+use Rattle.tape.proofs.Way.{Way, enter, bytes, earning, called, can-push, lost-here, ends-here, halts, not-counted}
+use Rattle.rules.specs.Rule.{add}
+use Rattle.tape.proofs.Way.{same-as}
+use borrow.Author.Needs.{needs}
+use Rattle.commands.proofs.braced.Statement.{statement}
+use Rattle.commands.proofs.braced.Tie as tie
+
+abbrev Along : tie.Start → ℕ → List ℕ → Cursor → Type 0
+Along start = Way (rule.braced (expression (start .args .mode) (start .args .left)) (start .args .which)) (start .args .script .now) (start .args .tape .now) (start .args .c)
+
+abbrev at-opened : (c : tie.After-opened) → Along (c .before .before .before .before .before .before) 1 (c .before .before .before .before .before .before .args .tape .now) (c .opened .given .0 .0)
+unfolding rule.braced
+at-opened c = earning _ (tag-skip-earns (ascii "{") (omega arith)) (enter (braced-pays (expression-pays (c .before .before .before .before .before .before .args .mode) (c .before .before .before .before .before .before .args .left)) (c .before .before .before .before .before .before .args .which)) (c .before .before .before .before .before .before .pre)) refl (known read (c .before .before .word-skip .ensures) (c .opened .given .1))
+
+abbrev at-list : (c : tie.After-list) → Along (c .before .before .before .before .before .before .before .before .before .before .before .before .before) 1 (c .before .before .before .before .items .last .1 .0) (c .list .given .0 .1 .0)
+unfolding rule.braced
+at-list c = called _ (at-opened (c .before .before .before .before .before .before .before)) refl (known-read counted (c .before .before .before .before .items .ensures) (c .list .given .1)) (c .before .before .before .before .items .kept .1 .0)
+
+abbrev at-skipped : (c : tie.After-skipped) → Along (c .before .before .before .before .before .before .before .before .before .before .before .before .before .before .before .before .before) 1 (c .before .before .before .before .before .before .before .before .items .last .1 .0) (c .skipped .given .0 .0)
+unfolding rule.braced
+at-skipped c = bytes _ (at-list (c .before .before .before .before)) refl (known read (c .before .before .skip .ensures) (c .skipped .given .1))
+
+abbrev at-kind-of : (c : tie.After-kind-of) → Along (c .before .before .before .before .before .before .before .before .before .before .before .before .before .before .before .before .before .before .before) 1 (c .before .before .before .before .before .before .before .before .before .before .items .last .1 .0) (c .before .before .skipped .given .0 .0)
+unfolding rule.braced
+at-kind-of c = same-as (at-skipped (c .before .before)) (ap (λ n. add n (c .before .before .before .before .before .before .list .given .0 .0) 0 0 0) (sym (c .kind-of .ensures)))
+
+returns : tie.Need-returns
+unfolding rule.braced
+returns c = lost-here _ (enter (braced-pays (expression-pays (c .before .before .before .before .before .before .args .mode) (c .before .before .before .before .before .before .args .left)) (c .before .before .before .before .before .before .args .which)) (c .before .before .before .before .before .before .pre)) refl (known read (c .before .before .word-skip .ensures) (c .enum-told .given .1))
+
+items-requires : tie.Need-items-requires
+items-requires c κs = (at-opened (c .before .before)) .room
+
+same-length : tie.Need-same-length
+same-length c = c .before .before .before .before .items .kept .1 .0 ∙ (at-opened (c .before .before .before .before .before .before .before)) .size
+
+returns-2 : tie.Need-returns-2
+unfolding rule.braced
+returns-2 c = halts _ (at-opened (c .before .before .before .before .before .before .before)) refl (not-counted (c .before .before .before .before .items .result) (c .before .match2 .keys2)) (runs (c .before .before .before .before .items .ensures)) _ (c .step .ensures)
+
+same-length-2 : tie.Need-same-length-2
+same-length-2 c = (at-list (c .before .before .before .before)) .size
+
+returns-3 : tie.Need-returns-3
+unfolding rule.braced
+returns-3 c = lost-here _ (at-list (c .before .before .before .before)) refl (known read (c .before .before .skip .ensures) (c .enum-told2 .given .1))
+
+push-requires : tie.Need-push-requires
+push-requires c κs = can-push (at-kind-of (c .before))
+
+same-length-3 : tie.Need-same-length-3
+same-length-3 c = c .before .before .push .kept .0 ∙ (at-kind-of (c .before .before .before .before)) .size
+
+returns-4 : tie.Need-returns-4
+unfolding rule.braced
+returns-4 c = ends-here (at-kind-of (c .before .before .before .before)) (added _ _ _ _ _ (c .before .before .push .ensures) (can-push (at-kind-of (c .before .before .before .before))))
+
+pub braced-spec : {M : Type 1} → statement M
+braced-spec =
+    tie.close
+    (tie.spec
+    (λ c. search needs)
+    (λ c κs. search needs)
+    (λ c. search needs)
+    (λ c. search needs)
+    returns
+    items-requires
+    (λ c. search needs)
+    (λ c κs. search needs)
+    same-length
+    returns-2
+    (λ c κs. search needs)
+    (λ c. search needs)
+    (λ c. search needs)
+    same-length-2
+    returns-3
+    (λ c κs. search needs)
+    push-requires
+    same-length-3
+    returns-4)

@@ -1,0 +1,79 @@
+-- Name and sign pay for the two records.
+use mathlib.Core.Path.{refl, _∙_}
+use Prim.Native.Nat.{ℕ}
+use native.Mathlib.Omega.{arith}
+use mathlib.Core.List.{List}
+use Rattle.rules.specs.Expressions.{expression}
+use Rattle.rules.specs.Commands as rule
+use Rattle.rules.proofs.Expressions.{expression-pays}
+use Rattle.rules.proofs.Commands.{expand-costs}
+use Rattle.lex.specs.Contract.{read}
+use Rattle.lex.specs.declared.Cursor.{Cursor}
+use Rattle.lex.proofs.Lexes.{known, given}
+use Rattle.tape.specs.Contract.{stepped}
+use Rattle.tape.proofs.Runs.{known-run}
+use Rattle.tape.proofs.Way.{Short, enter-short, bytes, spending, lost-here, ends-here, halts, not-stepped, as-it-is}
+use borrow.Author.Needs.{needs}
+use Rattle.commands.proofs.definition.Statement.{statement}
+use Rattle.commands.proofs.definition.Tie as tie
+
+abbrev Along : tie.Start → ℕ → List ℕ → Cursor → Type 0
+Along start = Short (rule.definition (expression (start .args .mode) (start .args .left)) (start .args .name) (start .args .dot) (start .args .op)) (start .args .script .now) (start .args .tape .now) (start .args .c)
+
+abbrev at-value : (c : tie.After-value) → Along (c .before .before .before .before .before .before .before .before) 1 (c .before .before .before .before .expand .last .1 .0) (c .value .given .0 .0)
+unfolding rule.definition
+at-value c = spending _ (expand-costs (expression-pays (c .before .before .before .before .before .before .before .before .args .mode) (c .before .before .before .before .before .before .before .before .args .left)) _) (enter-short (c .before .before .before .before .before .before .before .before .pre .0) (c .before .before .before .before .before .before .before .before .pre .1)) refl (known-run stepped (c .before .before .before .before .expand .ensures) (c .value .given .1)) (c .before .before .before .before .expand .kept .1 .0)
+
+abbrev at-skipped : (c : tie.After-skipped) → Along (c .before .before .before .before .before .before .before .before .before .before .before .before) 1 (c .before .before .before .before .before .before .before .before .expand .last .1 .0) (c .skipped .given .0 .0)
+unfolding rule.definition
+at-skipped c = bytes _ (at-value (c .before .before .before .before)) refl (known read (c .before .before .skip .ensures) (c .skipped .given .1))
+
+abbrev at-opt-word : (c : tie.After-opt-word) → Along (c .before .before .before .before .before .before .before .before .before .before .before .before .before .before .before .before) 1 (c .before .before .before .before .before .before .before .before .before .before .before .before .expand .last .1 .0) (c .opt-word .result)
+unfolding rule.definition
+at-opt-word c = bytes _ (at-skipped (c .before .before .before .before)) refl (c .opt-word .ensures)
+
+expand-requires : tie.Need-expand-requires
+expand-requires c κs = ((c .before .before .before .pre .0), omega (arith, c .before .before .before .pre .1))
+
+same-length : tie.Need-same-length
+same-length c = c .before .before .before .expand .kept .1 .0
+
+returns : tie.Need-returns
+unfolding rule.definition
+returns c = halts _ (enter-short (c .before .before .before .before .before .before .before .pre .0) (c .before .before .before .before .before .before .before .pre .1)) refl (not-stepped (c .before .before .before .expand .result) (c .match .keys2)) (c .before .before .before .expand .ensures) tt (as-it-is (stepped (c .before .before .before .expand .result)))
+
+same-length-2 : tie.Need-same-length-2
+same-length-2 c = (at-value (c .before .before .before .before)) .size
+
+returns-2 : tie.Need-returns-2
+unfolding rule.definition
+returns-2 c = lost-here _ (at-value (c .before .before .before .before)) refl (known read (c .before .before .skip .ensures) (c .enum-told .given .1))
+
+assigned-requires : tie.Need-assigned-requires
+assigned-requires c κs = ((at-opt-word c) .room, omega (arith, (at-opt-word c) .spare))
+
+same-length-3 : tie.Need-same-length-3
+same-length-3 c = c .before .before .assigned .kept .1 .0 ∙ (at-opt-word (c .before .before .before)) .size
+
+returns-3 : tie.Need-returns-3
+unfolding rule.definition
+returns-3 c = ends-here (at-opt-word (c .before .before .before)) (c .before .before .assigned .ensures)
+
+pub definition-spec : {M : Type 1} → statement M
+definition-spec =
+    tie.close
+    (tie.spec
+    expand-requires
+    (λ c. search needs)
+    same-length
+    returns
+    (λ c κs. search needs)
+    (λ c. search needs)
+    (λ c. search needs)
+    same-length-2
+    returns-2
+    (λ c. search needs)
+    (λ c κs. search needs)
+    assigned-requires
+    same-length-3
+    returns-3)

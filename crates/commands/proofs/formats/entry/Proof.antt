@@ -1,0 +1,74 @@
+-- The name pays for the record.
+use mathlib.Core.Path.{refl, _∙_}
+use Prim.Native.Nat.{ℕ}
+use mathlib.Core.List.{List}
+use Rattle.rules.specs.Commands as rule
+use Rattle.rules.proofs.Bytes.{token-pays}
+use Rattle.rules.proofs.Commands.{entry-pays}
+use Rattle.lex.specs.Contract.{read, taken}
+use Rattle.lex.specs.declared.Cursor.{Cursor}
+use Rattle.lex.proofs.Lexes.{known, given}
+use Rattle.tape.proofs.Runs.{added}
+use Rattle.tape.proofs.Way.{Way, enter, bytes, earning, can-push, lost-here, ends-here}
+use borrow.Author.Needs.{needs}
+use Rattle.commands.proofs.formats.entry.Statement.{statement}
+use Rattle.commands.proofs.formats.entry.Tie as tie
+
+abbrev Along : tie.Start → ℕ → List ℕ → Cursor → Type 0
+Along start = Way (rule.entry) (start .args .script .now) (start .args .tape .now) (start .args .c)
+
+abbrev at-opened : (c : tie.After-opened) → Along (c .before .before .before .before .before .before) 0 (c .before .before .before .before .before .before .args .tape .now) (c .opened .given .0 .0)
+unfolding rule.entry
+at-opened c = bytes _ (enter (entry-pays) (c .before .before .before .before .before .before .pre)) refl (known read (c .before .before .skip-word-skip .ensures) (c .opened .given .1))
+
+abbrev at-name : (c : tie.After-name) → Along (c .before .before .before .before .before .before .before .before .before .before) 1 (c .before .before .before .before .before .before .before .before .before .before .args .tape .now) (c .name .given .0 .1 .0)
+unfolding rule.entry
+at-name c = earning _ token-pays (at-opened (c .before .before .before .before)) refl (known taken (c .before .before .token .ensures) (c .name .given .1))
+
+abbrev at-closed : (c : tie.After-closed) → Along (c .before .before .before .before .before .before .before .before .before .before .before .before .before .before .before) 1 (c .before .before .before .before .before .before .before .before .before .before .before .before .before .before .before .args .tape .now) (c .closed .given .0 .0)
+unfolding rule.entry
+at-closed c = bytes _ (at-name (c .before .before .before .before .before)) refl (known read (c .before .before .skip-word .ensures) (c .closed .given .1))
+
+returns : tie.Need-returns
+unfolding rule.entry
+returns c = lost-here _ (enter (entry-pays) (c .before .before .before .before .before .before .pre)) refl (known read (c .before .before .skip-word-skip .ensures) (c .enum-told .given .1))
+
+returns-2 : tie.Need-returns-2
+unfolding rule.entry
+returns-2 c = lost-here _ (at-opened (c .before .before .before .before)) refl (known taken (c .before .before .token .ensures) (c .enum-told2 .given .1))
+
+returns-3 : tie.Need-returns-3
+unfolding rule.entry
+returns-3 c = lost-here _ (at-name (c .before .before .before .before .before)) refl (known read (c .before .before .skip-word .ensures) (c .enum-told3 .given .1))
+
+push-requires : tie.Need-push-requires
+push-requires c κs = can-push (at-closed (c .before .before))
+
+same-length : tie.Need-same-length
+same-length c = c .before .before .push .kept .0 ∙ (at-closed (c .before .before .before .before .before)) .size
+
+returns-4 : tie.Need-returns-4
+unfolding rule.entry
+returns-4 c = ends-here (at-closed (c .before .before .before .before .before)) (added _ _ _ _ _ (c .before .before .push .ensures) (can-push (at-closed (c .before .before .before .before .before))))
+
+pub entry-spec : {M : Type 1} → statement M
+entry-spec =
+    tie.close
+    (tie.spec
+    (λ c. search needs)
+    (λ c κs. search needs)
+    (λ c. search needs)
+    (λ c. search needs)
+    returns
+    (λ c κs. search needs)
+    (λ c. search needs)
+    (λ c. search needs)
+    returns-2
+    (λ c. search needs)
+    (λ c κs. search needs)
+    (λ c. search needs)
+    (λ c. search needs)
+    returns-3
+    push-requires
+    same-length
+    returns-4)

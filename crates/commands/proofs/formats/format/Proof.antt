@@ -1,0 +1,48 @@
+-- The name pays for the record.
+use mathlib.Core.Path.{refl, _∙_}
+use Prim.Native.Nat.{ℕ}
+use mathlib.Core.List.{List}
+use Rattle.rules.specs.Commands as rule
+use Rattle.rules.proofs.Bytes.{token-pays}
+use Rattle.rules.proofs.Commands.{format-pays}
+use Rattle.lex.specs.Contract.{taken}
+use Rattle.lex.specs.declared.Cursor.{Cursor}
+use Rattle.lex.proofs.Lexes.{known, given}
+use Rattle.tape.proofs.Runs.{added}
+use Rattle.tape.proofs.Way.{Way, enter, earning, can-push, lost-here, ends-here}
+use borrow.Author.Needs.{needs}
+use Rattle.commands.proofs.formats.format.Statement.{statement}
+use Rattle.commands.proofs.formats.format.Tie as tie
+
+abbrev Along : tie.Start → ℕ → List ℕ → Cursor → Type 0
+Along start = Way (rule.format) (start .args .script .now) (start .args .tape .now) (start .args .c)
+
+abbrev at-name : (c : tie.After-name) → Along (c .before .before .before .before .before) 1 (c .before .before .before .before .before .args .tape .now) (c .name .given .0 .1 .0)
+unfolding rule.format
+at-name c = earning _ token-pays (enter (format-pays) (c .before .before .before .before .before .pre)) refl (known taken (c .before .before .token .ensures) (c .name .given .1))
+
+returns : tie.Need-returns
+unfolding rule.format
+returns c = lost-here _ (enter (format-pays) (c .before .before .before .before .before .pre)) refl (known taken (c .before .before .token .ensures) (c .enum-told .given .1))
+
+push-requires : tie.Need-push-requires
+push-requires c κs = can-push (at-name (c .before .before))
+
+same-length : tie.Need-same-length
+same-length c = c .before .before .push .kept .0 ∙ (at-name (c .before .before .before .before .before)) .size
+
+returns-2 : tie.Need-returns-2
+unfolding rule.format
+returns-2 c = ends-here (at-name (c .before .before .before .before .before)) (added _ _ _ _ _ (c .before .before .push .ensures) (can-push (at-name (c .before .before .before .before .before))))
+
+pub format-spec : {M : Type 1} → statement M
+format-spec =
+    tie.close
+    (tie.spec
+    (λ c κs. search needs)
+    (λ c. search needs)
+    (λ c. search needs)
+    returns
+    push-requires
+    same-length
+    returns-2)

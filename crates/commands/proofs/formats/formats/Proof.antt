@@ -1,0 +1,133 @@
+-- Each format pays for itself.
+use mathlib.Core.Path.{refl, _∙_}
+use Prim.Native.Nat.{ℕ}
+use mathlib.Core.List.{List}
+use Rattle.rules.specs.Rule.{if_then_else_, word}
+use Rattle.rules.specs.Commands as rule
+use Rattle.rules.proofs.Commands.{formats-pays}
+use Rattle.lex.specs.Contract.{read}
+use Rattle.lex.specs.declared.Cursor.{Cursor}
+use Rattle.lex.proofs.Lexes.{known, given, opt-some, opt-none}
+use Rattle.tape.specs.Contract.{stepped, counted}
+use Rattle.tape.proofs.Runs.{known-read, runs, as-bytes}
+use Rattle.tape.proofs.Way.{Way, enter, bytes, called, lost-here, ends-here, halts, not-stepped}
+use borrow.Author.Needs.{needs}
+use Rattle.commands.proofs.formats.formats.Statement.{statement}
+use Rattle.commands.proofs.formats.formats.Tie as tie
+
+abbrev Along : tie.Start → ℕ → List ℕ → Cursor → Type 0
+Along start = Way (rule.formats) (start .args .script .now) (start .args .tape .now) (start .args .c)
+
+abbrev at-enum-told : (c : tie.After-enum-told) → Along (c .before .before .before .before .before .before) 0 (c .before .before .before .before .before .before .args .tape .now) (c .before .before .before .before .before .before .args .c)
+unfolding rule.formats if_then_else_
+at-enum-told c = bytes _ (enter (formats-pays) (c .before .before .before .before .before .before .pre)) refl (opt-none (known read (c .before .before .word .ensures) (c .enum-told .given .1)))
+
+abbrev at-several : (c : tie.After-several) → Along (c .before .before .before .before .before .before) 0 (c .before .before .before .before .before .before .args .tape .now) (c .several .given .0 .0)
+unfolding rule.formats if_then_else_
+at-several c = bytes _ (enter (formats-pays) (c .before .before .before .before .before .before .pre)) refl (opt-some (known read (c .before .before .word .ensures) (c .several .given .1)))
+
+abbrev at-before2 : (c : tie.After-before2) → Along (c .before .before .before .before .before .before .before .before .before .before) 0 (c .before .before .before .before .before .before .before .before .before .before .args .tape .now) (c .before2 .given .0 .0)
+unfolding rule.formats if_then_else_
+at-before2 c = bytes _ (at-several (c .before .before .before .before)) refl (known read (c .before .before .skip .ensures) (c .before2 .given .1))
+
+abbrev at-big : (c : tie.After-big) → Along (c .before .before .before .before .before .before .before .before .before .before .before .before .before .before .before .before .before) 0 (c .before .before .before .before .format .last .1 .0) (c .big .given .0 .0)
+unfolding rule.formats if_then_else_
+at-big c = called _ (at-before2 (c .before .before .before .before .before .before .before)) refl (known-read stepped (c .before .before .before .before .format .ensures) (c .big .given .1)) (c .before .before .before .before .format .kept .1 .0)
+
+abbrev at-comma : (c : tie.After-comma) → Along (c .before .before .before .before .before .before .before .before .before .before .before .before .before .before .before .before .before .before .before .before .before .before) 0 (c .before .before .before .before .before .before .before .before .before .format .last .1 .0) (c .comma .given .0 .0)
+unfolding rule.formats if_then_else_
+at-comma c = bytes _ (at-big (c .before .before .before .before .before)) refl (known read (c .before .before .skip-word-skip .ensures) (c .comma .given .1))
+
+abbrev at-little : (c : tie.After-little) → Along (c .before .before .before .before .before .before .before .before .before .before .before .before .before .before .before .before .before .before .before .before .before .before .before .before .before .before .before .before .before) 0 (c .before .before .before .before .format2 .last .1 .0) (c .little .given .0 .0)
+unfolding rule.formats if_then_else_
+at-little c = called _ (at-comma (c .before .before .before .before .before .before .before)) refl (known-read stepped (c .before .before .before .before .format2 .ensures) (c .little .given .1)) (c .before .before .before .before .format2 .kept .1 .0)
+
+abbrev at-behind : (c : tie.After-behind) → Along (c .before .before .before .before .before .before .before .before .before .before .before .before .before .before .before .before .before .before .before .before .before .before .before .before .before .before .before .before .before .before .before .before .before) 0 (c .before .before .before .before .before .before .before .before .format2 .last .1 .0) (c .behind .given .0 .0)
+unfolding rule.formats if_then_else_
+at-behind c = bytes _ (at-little (c .before .before .before .before)) refl (known read (c .before .before .skip2 .ensures) (c .behind .given .1))
+
+returns : tie.Need-returns
+unfolding rule.formats if_then_else_
+returns c = ends-here (at-enum-told c) (as-bytes (given _))
+
+returns-2 : tie.Need-returns-2
+unfolding rule.formats if_then_else_
+returns-2 c = lost-here _ (at-several (c .before .before .before .before)) refl (known read (c .before .before .skip .ensures) (c .enum-told2 .given .1))
+
+format-requires : tie.Need-format-requires
+format-requires c κs = (at-before2 (c .before .before)) .room
+
+same-length : tie.Need-same-length
+same-length c = c .before .before .before .before .format .kept .1 .0 ∙ (at-before2 (c .before .before .before .before .before .before .before)) .size
+
+returns-3 : tie.Need-returns-3
+unfolding rule.formats if_then_else_
+returns-3 c = halts _ (at-before2 (c .before .before .before .before .before .before .before)) refl (not-stepped (c .before .before .before .before .format .result) (c .before .match3 .keys2)) (runs (c .before .before .before .before .format .ensures)) _ (c .counted .ensures)
+
+same-length-2 : tie.Need-same-length-2
+same-length-2 c = (at-big (c .before .before .before .before .before)) .size
+
+returns-4 : tie.Need-returns-4
+unfolding rule.formats if_then_else_
+returns-4 c = lost-here _ (at-big (c .before .before .before .before .before)) refl (known read (c .before .before .skip-word-skip .ensures) (c .enum-told3 .given .1))
+
+format-requires-2 : tie.Need-format-requires-2
+format-requires-2 c κs = (at-comma (c .before .before)) .room
+
+same-length-3 : tie.Need-same-length-3
+same-length-3 c = c .before .before .before .before .format2 .kept .1 .0 ∙ (at-comma (c .before .before .before .before .before .before .before)) .size
+
+returns-5 : tie.Need-returns-5
+unfolding rule.formats if_then_else_
+returns-5 c = halts _ (at-comma (c .before .before .before .before .before .before .before)) refl (not-stepped (c .before .before .before .before .format2 .result) (c .before .match5 .keys2)) (runs (c .before .before .before .before .format2 .ensures)) _ (c .counted2 .ensures)
+
+same-length-4 : tie.Need-same-length-4
+same-length-4 c = (at-little (c .before .before .before .before)) .size
+
+returns-6 : tie.Need-returns-6
+unfolding rule.formats if_then_else_
+returns-6 c = lost-here _ (at-little (c .before .before .before .before)) refl (known read (c .before .before .skip2 .ensures) (c .enum-told4 .given .1))
+
+same-length-5 : tie.Need-same-length-5
+same-length-5 c = (at-behind (c .before)) .size
+
+returns-7 : tie.Need-returns-7
+unfolding rule.formats if_then_else_
+returns-7 c = ends-here (at-behind (c .before)) (as-bytes (given _))
+
+pub formats-spec : {M : Type 1} → statement M
+formats-spec =
+    tie.close
+    (tie.spec
+    (λ c. search needs)
+    (λ c κs. search needs)
+    (λ c. search needs)
+    (λ c. search needs)
+    returns
+    (λ c κs. search needs)
+    (λ c. search needs)
+    (λ c. search needs)
+    returns-2
+    format-requires
+    (λ c. search needs)
+    (λ c κs. search needs)
+    same-length
+    returns-3
+    (λ c. search needs)
+    (λ c κs. search needs)
+    (λ c. search needs)
+    (λ c. search needs)
+    same-length-2
+    returns-4
+    format-requires-2
+    (λ c. search needs)
+    (λ c κs. search needs)
+    same-length-3
+    returns-5
+    (λ c κs. search needs)
+    (λ c. search needs)
+    (λ c. search needs)
+    same-length-4
+    returns-6
+    same-length-5
+    returns-7)

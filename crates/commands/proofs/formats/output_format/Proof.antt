@@ -1,0 +1,111 @@
+-- The name pays for the record.
+use mathlib.Core.Path.{refl, _∙_}
+use Prim.Native.Nat.{ℕ}
+use mathlib.Core.List.{List}
+use Rattle.rules.specs.Rule.{word}
+use Rattle.rules.specs.Commands as rule
+use Rattle.rules.proofs.Bytes.{token-pays}
+use Rattle.rules.proofs.Commands.{output-format-pays}
+use Rattle.lex.specs.Contract.{read, taken}
+use Rattle.lex.specs.declared.Cursor.{Cursor}
+use Rattle.lex.proofs.Lexes.{known, given}
+use Rattle.tape.specs.Contract.{counted}
+use Rattle.tape.proofs.Runs.{known-read, runs, added}
+use Rattle.tape.proofs.Way.{Way, enter, bytes, earning, called, can-push, lost-here, ends-here, halts, not-counted}
+use borrow.Author.Needs.{needs}
+use Rattle.commands.proofs.formats.output_format.Statement.{statement}
+use Rattle.commands.proofs.formats.output_format.Tie as tie
+
+abbrev Along : tie.Start → ℕ → List ℕ → Cursor → Type 0
+Along start = Way (rule.output-format) (start .args .script .now) (start .args .tape .now) (start .args .c)
+
+abbrev at-opened : (c : tie.After-opened) → Along (c .before .before .before .before .before .before) 0 (c .before .before .before .before .before .before .args .tape .now) (c .opened .given .0 .0)
+unfolding rule.output-format
+at-opened c = bytes _ (enter (output-format-pays) (c .before .before .before .before .before .before .pre)) refl (known read (c .before .before .word-skip .ensures) (c .opened .given .1))
+
+abbrev at-name : (c : tie.After-name) → Along (c .before .before .before .before .before .before .before .before .before .before) 1 (c .before .before .before .before .before .before .before .before .before .before .args .tape .now) (c .name .given .0 .1 .0)
+unfolding rule.output-format
+at-name c = earning _ token-pays (at-opened (c .before .before .before .before)) refl (known taken (c .before .before .token .ensures) (c .name .given .1))
+
+abbrev at-skipped : (c : tie.After-skipped) → Along (c .before .before .before .before .before .before .before .before .before .before .before .before .before .before) 1 (c .before .before .before .before .before .before .before .before .before .before .before .before .before .before .args .tape .now) (c .skipped .given .0 .0)
+unfolding rule.output-format
+at-skipped c = bytes _ (at-name (c .before .before .before .before)) refl (known read (c .before .before .skip .ensures) (c .skipped .given .1))
+
+abbrev at-others : (c : tie.After-others) → Along (c .before .before .before .before .before .before .before .before .before .before .before .before .before .before .before .before .before .before .before .before .before) 1 (c .before .before .before .before .formats .last .1 .0) (c .others .given .0 .1 .0)
+unfolding rule.output-format
+at-others c = called _ (at-skipped (c .before .before .before .before .before .before .before)) refl (known-read counted (c .before .before .before .before .formats .ensures) (c .others .given .1)) (c .before .before .before .before .formats .kept .1 .0)
+
+abbrev at-closed : (c : tie.After-closed) → Along (c .before .before .before .before .before .before .before .before .before .before .before .before .before .before .before .before .before .before .before .before .before .before .before .before .before .before) 1 (c .before .before .before .before .before .before .before .before .before .formats .last .1 .0) (c .closed .given .0 .0)
+unfolding rule.output-format
+at-closed c = bytes _ (at-others (c .before .before .before .before .before)) refl (known read (c .before .before .word .ensures) (c .closed .given .1))
+
+returns : tie.Need-returns
+unfolding rule.output-format
+returns c = lost-here _ (enter (output-format-pays) (c .before .before .before .before .before .before .pre)) refl (known read (c .before .before .word-skip .ensures) (c .enum-told .given .1))
+
+returns-2 : tie.Need-returns-2
+unfolding rule.output-format
+returns-2 c = lost-here _ (at-opened (c .before .before .before .before)) refl (known taken (c .before .before .token .ensures) (c .enum-told2 .given .1))
+
+returns-3 : tie.Need-returns-3
+unfolding rule.output-format
+returns-3 c = lost-here _ (at-name (c .before .before .before .before)) refl (known read (c .before .before .skip .ensures) (c .enum-told3 .given .1))
+
+formats-requires : tie.Need-formats-requires
+formats-requires c κs = (at-skipped (c .before .before)) .room
+
+same-length : tie.Need-same-length
+same-length c = c .before .before .before .before .formats .kept .1 .0 ∙ (at-skipped (c .before .before .before .before .before .before .before)) .size
+
+returns-4 : tie.Need-returns-4
+unfolding rule.output-format
+returns-4 c = halts _ (at-skipped (c .before .before .before .before .before .before .before)) refl (not-counted (c .before .before .before .before .formats .result) (c .before .match4 .keys2)) (runs (c .before .before .before .before .formats .ensures)) _ (c .step .ensures)
+
+same-length-2 : tie.Need-same-length-2
+same-length-2 c = (at-others (c .before .before .before .before .before)) .size
+
+returns-5 : tie.Need-returns-5
+unfolding rule.output-format
+returns-5 c = lost-here _ (at-others (c .before .before .before .before .before)) refl (known read (c .before .before .word .ensures) (c .enum-told4 .given .1))
+
+push-requires : tie.Need-push-requires
+push-requires c κs = can-push (at-closed (c .before .before))
+
+same-length-3 : tie.Need-same-length-3
+same-length-3 c = c .before .before .push .kept .0 ∙ (at-closed (c .before .before .before .before .before)) .size
+
+returns-6 : tie.Need-returns-6
+unfolding rule.output-format
+returns-6 c = ends-here (at-closed (c .before .before .before .before .before)) (added _ _ _ _ _ (c .before .before .push .ensures) (can-push (at-closed (c .before .before .before .before .before))))
+
+pub output-format-spec : {M : Type 1} → statement M
+output-format-spec =
+    tie.close
+    (tie.spec
+    (λ c. search needs)
+    (λ c κs. search needs)
+    (λ c. search needs)
+    (λ c. search needs)
+    returns
+    (λ c κs. search needs)
+    (λ c. search needs)
+    (λ c. search needs)
+    returns-2
+    (λ c κs. search needs)
+    (λ c. search needs)
+    (λ c. search needs)
+    returns-3
+    formats-requires
+    (λ c. search needs)
+    (λ c κs. search needs)
+    same-length
+    returns-4
+    (λ c. search needs)
+    (λ c κs. search needs)
+    (λ c. search needs)
+    (λ c. search needs)
+    same-length-2
+    returns-5
+    push-requires
+    same-length-3
+    returns-6)

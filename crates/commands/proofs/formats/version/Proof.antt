@@ -1,0 +1,78 @@
+-- The brace that closes the body pays for the record.
+use mathlib.Core.Path.{refl, _∙_}
+use Prim.Native.Nat.{ℕ}
+use mathlib.Core.List.{List}
+use Rattle.rules.specs.Commands as rule
+use Rattle.rules.proofs.Commands.{body-pays, version-pays}
+use Rattle.lex.specs.Contract.{read, taken}
+use Rattle.lex.specs.declared.Cursor.{Cursor}
+use Rattle.lex.proofs.Lexes.{known, given}
+use Rattle.tape.proofs.Runs.{added}
+use Rattle.tape.proofs.Way.{Way, enter, bytes, earning, can-push, lost-here, ends-here}
+use borrow.Author.Needs.{needs}
+use Rattle.commands.proofs.formats.version.Statement.{statement}
+use Rattle.commands.proofs.formats.version.Tie as tie
+
+abbrev Along : tie.Start → ℕ → List ℕ → Cursor → Type 0
+Along start = Way (rule.version) (start .args .script .now) (start .args .tape .now) (start .args .c)
+
+abbrev at-opened : (c : tie.After-opened) → Along (c .before .before .before .before .before .before) 0 (c .before .before .before .before .before .before .args .tape .now) (c .opened .given .0 .0)
+unfolding rule.version
+at-opened c = bytes _ (enter (version-pays) (c .before .before .before .before .before .before .pre)) refl (known read (c .before .before .skip-word-skip .ensures) (c .opened .given .1))
+
+abbrev at-content : (c : tie.After-content) → Along (c .before .before .before .before .before .before .before .before .before .before) 1 (c .before .before .before .before .before .before .before .before .before .before .args .tape .now) (c .content .given .0 .1 .0)
+unfolding rule.version
+at-content c = earning _ body-pays (at-opened (c .before .before .before .before)) refl (known taken (c .before .before .body .ensures) (c .content .given .1))
+
+abbrev at-skipped : (c : tie.After-skipped) → Along (c .before .before .before .before .before .before .before .before .before .before .before .before .before .before) 1 (c .before .before .before .before .before .before .before .before .before .before .before .before .before .before .args .tape .now) (c .skipped .given .0 .0)
+unfolding rule.version
+at-skipped c = bytes _ (at-content (c .before .before .before .before)) refl (known read (c .before .before .skip .ensures) (c .skipped .given .1))
+
+abbrev at-opt-word : (c : tie.After-opt-word) → Along (c .before .before .before .before .before .before .before .before .before .before .before .before .before .before .before .before .before) 1 (c .before .before .before .before .before .before .before .before .before .before .before .before .before .before .before .before .before .args .tape .now) (c .opt-word .result)
+unfolding rule.version
+at-opt-word c = bytes _ (at-skipped (c .before .before .before)) refl (c .opt-word .ensures)
+
+returns : tie.Need-returns
+unfolding rule.version
+returns c = lost-here _ (enter (version-pays) (c .before .before .before .before .before .before .pre)) refl (known read (c .before .before .skip-word-skip .ensures) (c .enum-told .given .1))
+
+returns-2 : tie.Need-returns-2
+unfolding rule.version
+returns-2 c = lost-here _ (at-opened (c .before .before .before .before)) refl (known taken (c .before .before .body .ensures) (c .enum-told2 .given .1))
+
+returns-3 : tie.Need-returns-3
+unfolding rule.version
+returns-3 c = lost-here _ (at-content (c .before .before .before .before)) refl (known read (c .before .before .skip .ensures) (c .enum-told3 .given .1))
+
+push-requires : tie.Need-push-requires
+push-requires c κs = can-push (at-opt-word (c .before))
+
+same-length : tie.Need-same-length
+same-length c = c .before .before .push .kept .0 ∙ (at-opt-word (c .before .before .before .before)) .size
+
+returns-4 : tie.Need-returns-4
+unfolding rule.version
+returns-4 c = ends-here (at-opt-word (c .before .before .before .before)) (added _ _ _ _ _ (c .before .before .push .ensures) (can-push (at-opt-word (c .before .before .before .before))))
+
+pub version-spec : {M : Type 1} → statement M
+version-spec =
+    tie.close
+    (tie.spec
+    (λ c. search needs)
+    (λ c κs. search needs)
+    (λ c. search needs)
+    (λ c. search needs)
+    returns
+    (λ c κs. search needs)
+    (λ c. search needs)
+    (λ c. search needs)
+    returns-2
+    (λ c κs. search needs)
+    (λ c. search needs)
+    (λ c. search needs)
+    returns-3
+    (λ c. search needs)
+    (λ c κs. search needs)
+    push-requires
+    same-length
+    returns-4)

@@ -1,0 +1,32 @@
+-- By the command.
+use Rattle.rules.specs.Commands as rule
+use Rattle.lex.proofs.Lexes.{given}
+use borrow.Author.Needs.{needs}
+use Rattle.commands.proofs.item.Statement.{statement}
+use Rattle.commands.proofs.item.Tie as tie
+
+returns : tie.Need-returns
+returns c = rw (c .before .before .before .before .enum-told .given .1) (c .before .before .section-command .ensures)
+
+returns-2 : tie.Need-returns-2
+returns-2 c = rw (c .before .before .before .before .enum-told2 .given .1) (c .before .before .memory-region .ensures)
+
+returns-3 : tie.Need-returns-3
+returns-3 c = rw (c .before .before .before .before .enum-told3 .given .1) (c .before .before .phdr .ensures)
+
+pub item-spec : {M : Type 1} → statement M
+item-spec =
+    tie.close
+    (tie.spec
+    (λ c. search needs)
+    (λ c κs. search needs)
+    (λ c. search needs)
+    (λ c κs. search needs)
+    (λ c. search needs)
+    (λ c κs. search needs)
+    (λ c. search needs)
+    returns
+    (λ c. search needs)
+    returns-2
+    (λ c. search needs)
+    returns-3)

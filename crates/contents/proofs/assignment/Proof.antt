@@ -1,0 +1,137 @@
+-- Name and sign pay for the records of the assignment.
+use mathlib.Core.Path.{refl, _∙_}
+use Prim.Native.Nat.{ℕ}
+use native.Mathlib.Omega.{arith}
+use mathlib.Core.List.{List}
+use Rattle.rules.specs.Keywords.{keyword-of, numbered, keywords}
+use Rattle.rules.specs.Text.{same}
+use Rattle.rules.specs.Expressions.{expression, sign}
+use Rattle.rules.specs.Contents as rule
+use Rattle.rules.proofs.Bytes.{token-pays}
+use Rattle.rules.proofs.Expressions.{expression-pays}
+use Rattle.rules.proofs.Commands.{assignment-op-pays, expand-costs, assigned-costs, assignment-pays}
+use Rattle.lex.specs.Contract.{read, taken}
+use Rattle.lex.specs.declared.Cursor.{Cursor}
+use Rattle.lex.proofs.Lexes.{known, given}
+use Rattle.lex.proofs.Name.{keyed-token}
+use Rattle.operators.specs.Answers.{operated}
+use Rattle.tape.specs.Contract.{stepped}
+use Rattle.tape.proofs.Runs.{known-read, known-run, runs, as-bytes, as-lost}
+use Rattle.tape.proofs.Way.{Way, enter, bytes, earning, gaining, spending, lost-here, ends-here, halts, not-stepped, as-it-is}
+use borrow.Author.Needs.{needs}
+use Rattle.contents.proofs.assignment.Statement.{statement}
+use Rattle.contents.proofs.assignment.Tie as tie
+
+abbrev Along : tie.Start → ℕ → List ℕ → Cursor → Type 0
+Along start = Way (rule.assignment (expression (start .args .mode) (start .args .left))) (start .args .script .now) (start .args .tape .now) (start .args .c)
+
+abbrev at-name : (c : tie.After-name) → Along (c .before .before .before .before .before) 1 (c .before .before .before .before .before .args .tape .now) (c .name .given .0 .1 .0)
+unfolding rule.assignment keyword-of numbered keywords same
+at-name c = earning _ token-pays (enter (assignment-pays (expression-pays (c .before .before .before .before .before .args .mode) (c .before .before .before .before .before .args .left))) (c .before .before .before .before .before .pre)) refl (known taken (c .before .before .token .ensures) (c .name .given .1))
+
+abbrev at-skipped : (c : tie.After-skipped) → Along (c .before .before .before .before .before .before .before .before .before) 1 (c .before .before .before .before .before .before .before .before .before .args .tape .now) (c .skipped .given .0 .0)
+unfolding rule.assignment keyword-of numbered keywords same
+at-skipped c = bytes _ (at-name (c .before .before .before .before)) refl (known read (c .before .before .skip .ensures) (c .skipped .given .1))
+
+abbrev at-keyword-of : (c : tie.After-keyword-of) → Along (c .before .before .before .before .before .before .before .before .before .before .before) 1 (c .before .before .before .before .before .before .before .before .before .before .before .args .tape .now) (c .before .before .skipped .given .0 .0)
+unfolding rule.assignment keyword-of numbered keywords same
+at-keyword-of c = bytes _ (at-skipped (c .before .before)) refl (keyed-token (known taken (c .before .before .before .before .before .before .before .before .token .ensures) (c .before .before .before .before .before .before .name .given .1)) (c .keyword-of .ensures))
+
+abbrev at-sign : (c : tie.After-sign) → Along (c .before .before .before .before .before .before .before .before .before .before .before .before .before .before .before .before .before) 2 (c .before .before .before .before .assignment-op .last .1 .0) (c .sign .given .0 .1 .0)
+unfolding rule.assignment keyword-of numbered keywords same
+at-sign c = gaining _ (assignment-op-pays _ _) (at-keyword-of (c .before .before .before .before .before .before)) refl (known-read operated (c .before .before .before .before .assignment-op .ensures) (c .sign .given .1)) (c .before .before .before .before .assignment-op .kept .1 .0)
+
+abbrev at-value : (c : tie.After-value) → Along (c .before .before .before .before .before .before .before .before .before .before .before .before .before .before .before .before .before .before .before .before .before .before .before .before) 1 (c .before .before .before .before .expand .last .1 .0) (c .value .given .0 .0)
+unfolding rule.assignment keyword-of numbered keywords same
+at-value c = spending _ (expand-costs (expression-pays (c .before .before .before .before .before .before .before .before .before .before .before .before .before .before .before .before .before .before .before .before .before .before .before .before .args .mode) (c .before .before .before .before .before .before .before .before .before .before .before .before .before .before .before .before .before .before .before .before .before .before .before .before .args .left)) _) (at-sign (c .before .before .before .before .before .before .before)) refl (known-run stepped (c .before .before .before .before .expand .ensures) (c .value .given .1)) (c .before .before .before .before .expand .kept .1 .0)
+
+abbrev at-set : (c : tie.After-set) → Along (c .before .before .before .before .before .before .before .before .before .before .before .before .before .before .before .before .before .before .before .before .before .before .before .before .before .before .before .before .before .before .before) 0 (c .before .before .before .before .assigned .last .1 .0) (c .set .given .0 .0)
+unfolding rule.assignment keyword-of numbered keywords same
+at-set c = spending _ (assigned-costs _ _) (at-value (c .before .before .before .before .before .before .before)) refl (known-run stepped (c .before .before .before .before .assigned .ensures) (c .set .given .1)) (c .before .before .before .before .assigned .kept .1 .0)
+
+returns : tie.Need-returns
+unfolding rule.assignment keyword-of numbered keywords same
+returns c = lost-here _ (enter (assignment-pays (expression-pays (c .before .before .before .before .before .args .mode) (c .before .before .before .before .before .args .left))) (c .before .before .before .before .before .pre)) refl (known taken (c .before .before .token .ensures) (c .enum-told .given .1))
+
+returns-2 : tie.Need-returns-2
+unfolding rule.assignment keyword-of numbered keywords same
+returns-2 c = lost-here _ (at-name (c .before .before .before .before)) refl (known read (c .before .before .skip .ensures) (c .enum-told2 .given .1))
+
+assignment-op-requires : tie.Need-assignment-op-requires
+assignment-op-requires c κs = (at-keyword-of (c .before)) .room
+
+same-length : tie.Need-same-length
+same-length c = c .before .before .before .before .assignment-op .kept .1 .0 ∙ (at-keyword-of (c .before .before .before .before .before .before)) .size
+
+returns-3 : tie.Need-returns-3
+unfolding rule.assignment keyword-of numbered keywords same
+returns-3 c = halts _ (at-keyword-of (c .before .before .before .before .before .before)) refl tt (runs (known-read operated (c .before .before .before .before .assignment-op .ensures) (c .enum-told3 .given .1))) _ refl
+
+expand-requires : tie.Need-expand-requires
+expand-requires c κs = ((at-sign (c .before .before)) .room, omega (arith, (at-sign (c .before .before)) .spare))
+
+same-length-2 : tie.Need-same-length-2
+same-length-2 c = c .before .before .before .expand .kept .1 .0 ∙ (at-sign (c .before .before .before .before .before .before)) .size
+
+returns-4 : tie.Need-returns-4
+unfolding rule.assignment keyword-of numbered keywords same
+returns-4 c = halts _ (at-sign (c .before .before .before .before .before .before)) refl (not-stepped (c .before .before .before .expand .result) (c .match4 .keys2)) (c .before .before .before .expand .ensures) tt (as-it-is (stepped (c .before .before .before .expand .result)))
+
+assigned-requires : tie.Need-assigned-requires
+assigned-requires c κs = ((at-value (c .before .before)) .room, omega (arith, (at-value (c .before .before)) .spare))
+
+same-length-3 : tie.Need-same-length-3
+same-length-3 c = c .before .before .before .assigned .kept .1 .0 ∙ (at-value (c .before .before .before .before .before .before)) .size
+
+returns-5 : tie.Need-returns-5
+unfolding rule.assignment keyword-of numbered keywords same
+returns-5 c = halts _ (at-value (c .before .before .before .before .before .before)) refl (not-stepped (c .before .before .before .assigned .result) (c .match5 .keys2)) (c .before .before .before .assigned .ensures) tt (as-it-is (stepped (c .before .before .before .assigned .result)))
+
+same-length-4 : tie.Need-same-length-4
+same-length-4 c = (at-set (c .before .before .before .before .before)) .size
+
+returns-6 : tie.Need-returns-6
+unfolding rule.assignment keyword-of numbered keywords same
+returns-6 c = ends-here (at-set (c .before .before .before .before .before)) (as-lost (known read (c .before .before .opt-word-skip .ensures) (c .enum-told4 .given .1)))
+
+same-length-5 : tie.Need-same-length-5
+same-length-5 c = (at-set (c .before .before .before .before .before .before)) .size
+
+returns-7 : tie.Need-returns-7
+unfolding rule.assignment keyword-of numbered keywords same
+returns-7 c = ends-here (at-set (c .before .before .before .before .before .before)) (as-bytes (known read (c .before .before .before .opt-word-skip .ensures) (c .before .ended .given .1)))
+
+pub assignment-spec : {M : Type 1} → statement M
+assignment-spec =
+    tie.close
+    (tie.spec
+    (λ c κs. search needs)
+    (λ c. search needs)
+    (λ c. search needs)
+    returns
+    (λ c κs. search needs)
+    (λ c. search needs)
+    (λ c. search needs)
+    returns-2
+    (λ c κs. search needs)
+    assignment-op-requires
+    (λ c. search needs)
+    (λ c. search needs)
+    same-length
+    returns-3
+    expand-requires
+    (λ c. search needs)
+    same-length-2
+    returns-4
+    assigned-requires
+    (λ c. search needs)
+    same-length-3
+    returns-5
+    (λ c. search needs)
+    (λ c κs. search needs)
+    (λ c. search needs)
+    (λ c. search needs)
+    same-length-4
+    returns-6
+    same-length-5
+    returns-7)

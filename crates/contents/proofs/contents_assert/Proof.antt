@@ -1,0 +1,78 @@
+-- ASSERT pays for itself.
+use mathlib.Core.Path.{refl, _∙_}
+use Prim.Native.Nat.{ℕ}
+use mathlib.Core.List.{List}
+use Rattle.rules.specs.Expressions.{expression}
+use Rattle.rules.specs.Contents as rule
+use Rattle.rules.proofs.Expressions.{expression-pays}
+use Rattle.rules.proofs.Commands.{contents-assert-pays}
+use Rattle.lex.specs.Contract.{read}
+use Rattle.lex.specs.declared.Cursor.{Cursor}
+use Rattle.lex.proofs.Lexes.{known, given}
+use Rattle.tape.specs.Contract.{stepped}
+use Rattle.tape.proofs.Runs.{known-read, runs, as-bytes, as-lost}
+use Rattle.tape.proofs.Way.{Way, enter, bytes, called, lost-here, ends-here, halts, not-stepped, as-it-is}
+use borrow.Author.Needs.{needs}
+use Rattle.contents.proofs.contents_assert.Statement.{statement}
+use Rattle.contents.proofs.contents_assert.Tie as tie
+
+abbrev Along : tie.Start → ℕ → List ℕ → Cursor → Type 0
+Along start = Way (rule.contents-assert (expression (start .args .mode) (start .args .left))) (start .args .script .now) (start .args .tape .now) (start .args .c)
+
+abbrev at-named : (c : tie.After-named) → Along (c .before .before .before .before .before .before) 0 (c .before .before .before .before .before .before .args .tape .now) (c .named .given .0 .0)
+unfolding rule.contents-assert
+at-named c = bytes _ (enter (contents-assert-pays (expression-pays (c .before .before .before .before .before .before .args .mode) (c .before .before .before .before .before .before .args .left))) (c .before .before .before .before .before .before .pre)) refl (known read (c .before .before .word-skip .ensures) (c .named .given .1))
+
+abbrev at-told : (c : tie.After-told) → Along (c .before .before .before .before .before .before .before .before .before .before .before .before .before) 0 (c .before .before .before .before .asserted .last .1 .0) (c .told .given .0 .0)
+unfolding rule.contents-assert
+at-told c = called _ (at-named (c .before .before .before .before .before .before .before)) refl (known-read stepped (c .before .before .before .before .asserted .ensures) (c .told .given .1)) (c .before .before .before .before .asserted .kept .1 .0)
+
+returns : tie.Need-returns
+unfolding rule.contents-assert
+returns c = lost-here _ (enter (contents-assert-pays (expression-pays (c .before .before .before .before .before .before .args .mode) (c .before .before .before .before .before .before .args .left))) (c .before .before .before .before .before .before .pre)) refl (known read (c .before .before .word-skip .ensures) (c .enum-told .given .1))
+
+asserted-requires : tie.Need-asserted-requires
+asserted-requires c κs = (at-named (c .before .before)) .room
+
+same-length : tie.Need-same-length
+same-length c = c .before .before .before .asserted .kept .1 .0 ∙ (at-named (c .before .before .before .before .before .before)) .size
+
+returns-2 : tie.Need-returns-2
+unfolding rule.contents-assert
+returns-2 c = halts _ (at-named (c .before .before .before .before .before .before)) refl (not-stepped (c .before .before .before .asserted .result) (c .match2 .keys2)) (runs (c .before .before .before .asserted .ensures)) tt (as-it-is (stepped (c .before .before .before .asserted .result)))
+
+same-length-2 : tie.Need-same-length-2
+same-length-2 c = (at-told (c .before .before .before .before .before)) .size
+
+returns-3 : tie.Need-returns-3
+unfolding rule.contents-assert
+returns-3 c = ends-here (at-told (c .before .before .before .before .before)) (as-lost (known read (c .before .before .opt-word-skip .ensures) (c .enum-told2 .given .1)))
+
+same-length-3 : tie.Need-same-length-3
+same-length-3 c = (at-told (c .before .before .before .before .before .before)) .size
+
+returns-4 : tie.Need-returns-4
+unfolding rule.contents-assert
+returns-4 c = ends-here (at-told (c .before .before .before .before .before .before)) (as-bytes (known read (c .before .before .before .opt-word-skip .ensures) (c .before .ended .given .1)))
+
+pub contents-assert-spec : {M : Type 1} → statement M
+contents-assert-spec =
+    tie.close
+    (tie.spec
+    (λ c. search needs)
+    (λ c κs. search needs)
+    (λ c. search needs)
+    (λ c. search needs)
+    returns
+    asserted-requires
+    (λ c. search needs)
+    same-length
+    returns-2
+    (λ c. search needs)
+    (λ c κs. search needs)
+    (λ c. search needs)
+    (λ c. search needs)
+    same-length-2
+    returns-3
+    same-length-3
+    returns-4)

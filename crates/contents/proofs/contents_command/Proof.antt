@@ -1,0 +1,109 @@
+-- Each try that fails gives back what it left behind, and the next is read from the same place.
+use mathlib.Core.Path.{refl, _∙_}
+use Prim.Native.Nat.{ℕ}
+use mathlib.Core.List.{List}
+use Rattle.rules.specs.Expressions.{expression}
+use Rattle.rules.specs.Contents as rule
+use Rattle.rules.proofs.Expressions.{expression-pays}
+use Rattle.rules.proofs.Commands.{contents-command-pays}
+use Rattle.lex.specs.declared.Cursor.{Cursor}
+use Rattle.lex.proofs.Lexes.{given}
+use Rattle.tape.specs.Contract.{stepped}
+use Rattle.tape.proofs.Runs.{known-read, runs}
+use Rattle.tape.proofs.Way.{Way, enter, ends-here, after-try, tried-here}
+use borrow.Author.Needs.{needs}
+use Rattle.contents.proofs.contents_command.Statement.{statement}
+use Rattle.contents.proofs.contents_command.Tie as tie
+
+abbrev Along : tie.Start → ℕ → List ℕ → Cursor → Type 0
+Along start = Way (rule.contents-command (expression (start .args .mode) (start .args .left))) (start .args .script .now) (start .args .tape .now) (start .args .c)
+
+abbrev at-enum-told : (c : tie.After-enum-told) → Along (c .before .before .before .before .before .before .before .before) 0 (c .before .before .before .before .contents-provide .last .1 .0) (c .before .before .before .before .before .before .before .before .args .c)
+unfolding rule.contents-command
+at-enum-told c = after-try _ (enter (contents-command-pays (expression-pays (c .before .before .before .before .before .before .before .before .args .mode) (c .before .before .before .before .before .before .before .before .args .left))) (c .before .before .before .before .before .before .before .before .pre)) refl (known-read stepped (c .before .before .before .before .contents-provide .ensures) (c .enum-told .given .1)) (c .before .before .before .before .contents-provide .kept .1 .0)
+
+abbrev at-enum-told2 : (c : tie.After-enum-told2) → Along (c .before .before .before .before .before .before .before .before .before .before .before .before .before .before) 0 (c .before .before .before .before .contents-assert .last .1 .0) (c .before .before .before .before .before .before .before .before .before .before .before .before .before .before .args .c)
+unfolding rule.contents-command
+at-enum-told2 c = after-try _ (at-enum-told (c .before .before .before .before .before .before)) refl (known-read stepped (c .before .before .before .before .contents-assert .ensures) (c .enum-told2 .given .1)) (c .before .before .before .before .contents-assert .kept .1 .0)
+
+abbrev at-enum-told3 : (c : tie.After-enum-told3) → Along (c .before .before .before .before .before .before .before .before .before .before .before .before .before .before .before .before .before .before .before .before) 0 (c .before .before .before .before .matcher .last .1 .0) (c .before .before .before .before .before .before .before .before .before .before .before .before .before .before .before .before .before .before .before .before .args .c)
+unfolding rule.contents-command
+at-enum-told3 c = after-try _ (at-enum-told2 (c .before .before .before .before .before .before)) refl (known-read stepped (c .before .before .before .before .matcher .ensures) (c .enum-told3 .given .1)) (c .before .before .before .before .matcher .kept .1 .0)
+
+abbrev at-enum-told4 : (c : tie.After-enum-told4) → Along (c .before .before .before .before .before .before .before .before .before .before .before .before .before .before .before .before .before .before .before .before .before .before .before .before .before .before) 0 (c .before .before .before .before .assignment .last .1 .0) (c .before .before .before .before .before .before .before .before .before .before .before .before .before .before .before .before .before .before .before .before .before .before .before .before .before .before .args .c)
+unfolding rule.contents-command
+at-enum-told4 c = after-try _ (at-enum-told3 (c .before .before .before .before .before .before)) refl (known-read stepped (c .before .before .before .before .assignment .ensures) (c .enum-told4 .given .1)) (c .before .before .before .before .assignment .kept .1 .0)
+
+contents-provide-requires : tie.Need-contents-provide-requires
+contents-provide-requires c κs = (enter (contents-command-pays (expression-pays (c .before .before .before .args .mode) (c .before .before .before .args .left))) (c .before .before .before .pre)) .room
+
+same-length : tie.Need-same-length
+same-length c = c .before .before .before .contents-provide .kept .1 .0 ∙ (enter (contents-command-pays (expression-pays (c .before .before .before .before .before .before .before .args .mode) (c .before .before .before .before .before .before .before .args .left))) (c .before .before .before .before .before .before .before .pre)) .size
+
+returns : tie.Need-returns
+unfolding rule.contents-command
+returns c = tried-here _ (enter (contents-command-pays (expression-pays (c .before .before .before .before .before .before .before .args .mode) (c .before .before .before .before .before .before .before .args .left))) (c .before .before .before .before .before .before .before .pre)) refl (c .before .before .before .contents-provide .result) (c .before .before .before .contents-provide .ensures) (c .match .keys2)
+
+contents-assert-requires : tie.Need-contents-assert-requires
+contents-assert-requires c κs = (at-enum-told (c .before)) .room
+
+same-length-2 : tie.Need-same-length-2
+same-length-2 c = c .before .before .before .contents-assert .kept .1 .0 ∙ (at-enum-told (c .before .before .before .before .before)) .size
+
+returns-2 : tie.Need-returns-2
+unfolding rule.contents-command
+returns-2 c = tried-here _ (at-enum-told (c .before .before .before .before .before)) refl (c .before .before .before .contents-assert .result) (c .before .before .before .contents-assert .ensures) (c .match2 .keys2)
+
+matcher-requires : tie.Need-matcher-requires
+matcher-requires c κs = (at-enum-told2 (c .before)) .room
+
+same-length-3 : tie.Need-same-length-3
+same-length-3 c = c .before .before .before .matcher .kept .1 .0 ∙ (at-enum-told2 (c .before .before .before .before .before)) .size
+
+returns-3 : tie.Need-returns-3
+unfolding rule.contents-command
+returns-3 c = tried-here _ (at-enum-told2 (c .before .before .before .before .before)) refl (c .before .before .before .matcher .result) (c .before .before .before .matcher .ensures) (c .match3 .keys2)
+
+assignment-requires : tie.Need-assignment-requires
+assignment-requires c κs = (at-enum-told3 (c .before)) .room
+
+same-length-4 : tie.Need-same-length-4
+same-length-4 c = c .before .before .before .assignment .kept .1 .0 ∙ (at-enum-told3 (c .before .before .before .before .before)) .size
+
+returns-4 : tie.Need-returns-4
+unfolding rule.contents-command
+returns-4 c = tried-here _ (at-enum-told3 (c .before .before .before .before .before)) refl (c .before .before .before .assignment .result) (c .before .before .before .assignment .ensures) (c .match4 .keys2)
+
+constructors-requires : tie.Need-constructors-requires
+constructors-requires c κs = (at-enum-told4 (c .before)) .room
+
+same-length-5 : tie.Need-same-length-5
+same-length-5 c = c .before .before .constructors .kept .1 .0 ∙ (at-enum-told4 (c .before .before .before .before)) .size
+
+returns-5 : tie.Need-returns-5
+unfolding rule.contents-command
+returns-5 c = ends-here (at-enum-told4 (c .before .before .before .before)) (runs (c .before .before .constructors .ensures))
+
+pub contents-command-spec : {M : Type 1} → statement M
+contents-command-spec =
+    tie.close
+    (tie.spec
+    contents-provide-requires
+    (λ c. search needs)
+    same-length
+    returns
+    contents-assert-requires
+    (λ c. search needs)
+    same-length-2
+    returns-2
+    matcher-requires
+    (λ c. search needs)
+    same-length-3
+    returns-3
+    assignment-requires
+    (λ c. search needs)
+    same-length-4
+    returns-4
+    constructors-requires
+    same-length-5
+    returns-5)

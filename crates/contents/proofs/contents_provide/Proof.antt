@@ -1,0 +1,64 @@
+-- PROVIDE pays for itself.
+use mathlib.Core.Path.{refl, _∙_}
+use Prim.Native.Nat.{ℕ}
+use mathlib.Core.List.{List}
+use Rattle.rules.specs.Expressions.{expression}
+use Rattle.rules.specs.Contents as rule
+use Rattle.rules.proofs.Expressions.{expression-pays}
+use Rattle.rules.proofs.Commands.{contents-provide-pays}
+use Rattle.lex.specs.Contract.{read}
+use Rattle.lex.specs.declared.Cursor.{Cursor}
+use Rattle.lex.proofs.Lexes.{known, given}
+use Rattle.operators.specs.Answers.{operated}
+use Rattle.tape.proofs.Runs.{runs}
+use Rattle.tape.proofs.Way.{Way, enter, bytes, lost-here, ends-here}
+use borrow.Author.Needs.{needs}
+use Rattle.contents.proofs.contents_provide.Statement.{statement}
+use Rattle.contents.proofs.contents_provide.Tie as tie
+
+abbrev Along : tie.Start → ℕ → List ℕ → Cursor → Type 0
+Along start = Way (rule.contents-provide (expression (start .args .mode) (start .args .left))) (start .args .script .now) (start .args .tape .now) (start .args .c)
+
+abbrev at-named : (c : tie.After-named) → Along (c .before .before .before .before .before .before .before) 0 (c .before .before .before .before .before .before .before .args .tape .now) (c .named .given .0 .1 .0)
+unfolding rule.contents-provide
+at-named c = bytes _ (enter (contents-provide-pays (expression-pays (c .before .before .before .before .before .before .before .args .mode) (c .before .before .before .before .before .before .before .args .left))) (c .before .before .before .before .before .before .before .pre)) refl (known operated (c .before .before .sign-of-two .ensures) (c .named .given .1))
+
+abbrev at-skipped : (c : tie.After-skipped) → Along (c .before .before .before .before .before .before .before .before .before .before .before) 0 (c .before .before .before .before .before .before .before .before .before .before .before .args .tape .now) (c .skipped .given .0 .0)
+unfolding rule.contents-provide
+at-skipped c = bytes _ (at-named (c .before .before .before .before)) refl (known read (c .before .before .skip .ensures) (c .skipped .given .1))
+
+returns : tie.Need-returns
+unfolding rule.contents-provide
+returns c = lost-here _ (enter (contents-provide-pays (expression-pays (c .before .before .before .before .before .before .before .args .mode) (c .before .before .before .before .before .before .before .args .left))) (c .before .before .before .before .before .before .before .pre)) refl (known operated (c .before .before .sign-of-two .ensures) (c .enum-told .given .1))
+
+returns-2 : tie.Need-returns-2
+unfolding rule.contents-provide
+returns-2 c = lost-here _ (at-named (c .before .before .before .before)) refl (known read (c .before .before .skip .ensures) (c .enum-told2 .given .1))
+
+provide-requires : tie.Need-provide-requires
+provide-requires c κs = (at-skipped (c .before .before)) .room
+
+same-length : tie.Need-same-length
+same-length c = c .before .before .provide .kept .1 .0 ∙ (at-skipped (c .before .before .before .before .before)) .size
+
+returns-3 : tie.Need-returns-3
+unfolding rule.contents-provide
+returns-3 c = ends-here (at-skipped (c .before .before .before .before .before)) (runs (c .before .before .provide .ensures))
+
+pub contents-provide-spec : {M : Type 1} → statement M
+contents-provide-spec =
+    tie.close
+    (tie.spec
+    (λ c. search needs)
+    (λ c. search needs)
+    (λ c κs. search needs)
+    (λ c. search needs)
+    (λ c. search needs)
+    returns
+    (λ c κs. search needs)
+    (λ c. search needs)
+    (λ c. search needs)
+    returns-2
+    provide-requires
+    same-length
+    returns-3)

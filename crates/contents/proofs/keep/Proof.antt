@@ -1,0 +1,91 @@
+-- The matcher pays for itself.
+use mathlib.Core.Path.{refl, _∙_}
+use Prim.Native.Nat.{ℕ}
+use native.Mathlib.Omega.{arith}
+use mathlib.Core.List.{List}
+use Rattle.rules.specs.Rule.{word}
+use Rattle.rules.specs.Contents as rule
+use Rattle.rules.proofs.Commands.{keep-pays}
+use Rattle.lex.specs.Contract.{read}
+use Rattle.lex.specs.declared.Cursor.{Cursor}
+use Rattle.lex.proofs.Lexes.{known, given}
+use Rattle.tape.specs.Contract.{stepped}
+use Rattle.tape.proofs.Runs.{known-read, runs, as-bytes, as-lost}
+use Rattle.tape.proofs.Way.{Way, enter, bytes, called, lost-here, ends-here, halts, not-stepped, as-it-is}
+use borrow.Author.Needs.{needs}
+use Rattle.contents.proofs.keep.Statement.{statement}
+use Rattle.contents.proofs.keep.Tie as tie
+
+abbrev Along : tie.Start → ℕ → List ℕ → Cursor → Type 0
+Along start = Way (rule.keep) (start .args .script .now) (start .args .tape .now) (start .args .c)
+
+abbrev at-named : (c : tie.After-named) → Along (c .before .before .before .before .before .before) 0 (c .before .before .before .before .before .before .args .tape .now) (c .named .given .0 .0)
+unfolding rule.keep
+at-named c = bytes _ (enter (keep-pays) (c .before .before .before .before .before .before .pre)) refl (known read (c .before .before .word .ensures) (c .named .given .1))
+
+abbrev at-opened : (c : tie.After-opened) → Along (c .before .before .before .before .before .before .before .before .before .before .before) 0 (c .before .before .before .before .before .before .before .before .before .before .before .args .tape .now) (c .opened .given .0 .0)
+unfolding rule.keep
+at-opened c = bytes _ (at-named (c .before .before .before .before .before)) refl (known read (c .before .before .skip-word .ensures) (c .opened .given .1))
+
+abbrev at-kept : (c : tie.After-kept) → Along (c .before .before .before .before .before .before .before .before .before .before .before .before .before .before .before .before .before .before) 0 (c .before .before .before .before .matcher-pattern .last .1 .0) (c .kept .given .0 .0)
+unfolding rule.keep
+at-kept c = called _ (at-opened (c .before .before .before .before .before .before .before)) refl (known-read stepped (c .before .before .before .before .matcher-pattern .ensures) (c .kept .given .1)) (c .before .before .before .before .matcher-pattern .kept .1 .0)
+
+returns : tie.Need-returns
+unfolding rule.keep
+returns c = lost-here _ (enter (keep-pays) (c .before .before .before .before .before .before .pre)) refl (known read (c .before .before .word .ensures) (c .enum-told .given .1))
+
+returns-2 : tie.Need-returns-2
+unfolding rule.keep
+returns-2 c = lost-here _ (at-named (c .before .before .before .before .before)) refl (known read (c .before .before .skip-word .ensures) (c .enum-told2 .given .1))
+
+matcher-pattern-requires : tie.Need-matcher-pattern-requires
+matcher-pattern-requires c κs = ((at-opened (c .before .before)) .room, omega arith)
+
+same-length : tie.Need-same-length
+same-length c = c .before .before .before .matcher-pattern .kept .1 .0 ∙ (at-opened (c .before .before .before .before .before .before)) .size
+
+returns-3 : tie.Need-returns-3
+unfolding rule.keep
+returns-3 c = halts _ (at-opened (c .before .before .before .before .before .before)) refl (not-stepped (c .before .before .before .matcher-pattern .result) (c .match3 .keys2)) (runs (c .before .before .before .matcher-pattern .ensures)) tt (as-it-is (stepped (c .before .before .before .matcher-pattern .result)))
+
+same-length-2 : tie.Need-same-length-2
+same-length-2 c = (at-kept (c .before .before .before .before .before)) .size
+
+returns-4 : tie.Need-returns-4
+unfolding rule.keep
+returns-4 c = ends-here (at-kept (c .before .before .before .before .before)) (as-lost (known read (c .before .before .word-skip .ensures) (c .enum-told3 .given .1)))
+
+same-length-3 : tie.Need-same-length-3
+same-length-3 c = (at-kept (c .before .before .before .before .before .before)) .size
+
+returns-5 : tie.Need-returns-5
+unfolding rule.keep
+returns-5 c = ends-here (at-kept (c .before .before .before .before .before .before)) (as-bytes (known read (c .before .before .before .word-skip .ensures) (c .before .closed .given .1)))
+
+pub keep-spec : {M : Type 1} → statement M
+keep-spec =
+    tie.close
+    (tie.spec
+    (λ c. search needs)
+    (λ c κs. search needs)
+    (λ c. search needs)
+    (λ c. search needs)
+    returns
+    (λ c. search needs)
+    (λ c κs. search needs)
+    (λ c. search needs)
+    (λ c. search needs)
+    returns-2
+    matcher-pattern-requires
+    (λ c. search needs)
+    same-length
+    returns-3
+    (λ c. search needs)
+    (λ c κs. search needs)
+    (λ c. search needs)
+    (λ c. search needs)
+    same-length-2
+    returns-4
+    same-length-3
+    returns-5)

@@ -1,0 +1,131 @@
+-- The file pattern pays for the record.
+use mathlib.Core.Path.{refl, _∙_}
+use Prim.Native.Nat.{ℕ}
+use native.Mathlib.Omega.{arith}
+use mathlib.Core.List.{List}
+use Rattle.rules.specs.Keywords.{keyword-of}
+use Rattle.rules.specs.Contents as rule
+use Rattle.rules.proofs.Bytes.{token-pays}
+use Rattle.rules.proofs.Commands.{matcher-pattern-pays}
+use Rattle.lex.specs.Contract.{read, taken}
+use Rattle.lex.specs.declared.Cursor.{Cursor}
+use Rattle.lex.proofs.Lexes.{known, given}
+use Rattle.lex.proofs.Name.{keyed-token}
+use Rattle.keywords.proofs.Names.{star, no-star}
+use Rattle.tape.specs.Contract.{counted}
+use Rattle.tape.proofs.Runs.{known-read, runs, added}
+use Rattle.tape.proofs.Way.{Way, enter, bytes, earning, called, can-push, lost-here, ends-here, halts, not-counted, where-so, where-not}
+use borrow.Author.Needs.{needs}
+use Rattle.contents.proofs.matcher_pattern.Statement.{statement}
+use Rattle.contents.proofs.matcher_pattern.Tie as tie
+
+abbrev Along : tie.Start → ℕ → List ℕ → Cursor → Type 0
+Along start = Way (rule.matcher-pattern (start .args .keep)) (start .args .script .now) (start .args .tape .now) (start .args .c)
+
+abbrev at-file : (c : tie.After-file) → Along (c .before .before .before .before .before) 1 (c .before .before .before .before .before .args .tape .now) (c .file .given .0 .1 .0)
+unfolding rule.matcher-pattern
+at-file c = earning _ token-pays (enter (matcher-pattern-pays (c .before .before .before .before .before .args .keep)) (c .before .before .before .before .before .pre .0)) refl (known taken (c .before .before .token .ensures) (c .file .given .1))
+
+abbrev at-opened : (c : tie.After-opened) → Along (c .before .before .before .before .before .before .before .before .before .before) 1 (c .before .before .before .before .before .before .before .before .before .before .args .tape .now) (c .opened .given .0 .0)
+unfolding rule.matcher-pattern
+at-opened c = bytes _ (at-file (c .before .before .before .before .before)) refl (known read (c .before .before .skip-word-skip .ensures) (c .opened .given .1))
+
+abbrev at-list : (c : tie.After-list) → Along (c .before .before .before .before .before .before .before .before .before .before .before .before .before .before .before .before .before) 1 (c .before .before .before .before .patterns .last .1 .0) (c .list .given .0 .1 .0)
+unfolding rule.matcher-pattern
+at-list c = called _ (at-opened (c .before .before .before .before .before .before .before)) refl (known-read counted (c .before .before .before .before .patterns .ensures) (c .list .given .1)) (c .before .before .before .before .patterns .kept .1 .0)
+
+abbrev at-skipped : (c : tie.After-skipped) → Along (c .before .before .before .before .before .before .before .before .before .before .before .before .before .before .before .before .before .before .before .before .before) 1 (c .before .before .before .before .before .before .before .before .patterns .last .1 .0) (c .skipped .given .0 .0)
+unfolding rule.matcher-pattern
+at-skipped c = bytes _ (at-list (c .before .before .before .before)) refl (known read (c .before .before .skip .ensures) (c .skipped .given .1))
+
+abbrev at-keyword-of : (c : tie.After-keyword-of) → Along (c .before .before .before .before .before .before .before .before .before .before .before .before .before .before .before .before .before .before .before .before .before .before .before) 1 (c .before .before .before .before .before .before .before .before .before .before .patterns .last .1 .0) (c .before .before .skipped .given .0 .0)
+unfolding rule.matcher-pattern
+at-keyword-of c = bytes _ (at-skipped (c .before .before)) refl (keyed-token (known taken (c .before .before .before .before .before .before .before .before .before .before .before .before .before .before .before .before .before .before .before .before .token .ensures) (c .before .before .before .before .before .before .before .before .before .before .before .before .before .before .before .before .before .before .file .given .1)) (c .keyword-of .ensures))
+
+abbrev at-if1 : (c : tie.Then1) → Along (c .before .before .before .before .before .before .before .before .before .before .before .before .before .before .before .before .before .before .before .before .before .before .before .before) 1 (c .before .before .before .before .before .before .before .before .before .before .before .patterns .last .1 .0) (c .before .before .before .skipped .given .0 .0)
+unfolding rule.matcher-pattern
+at-if1 c = where-so (at-keyword-of (c .before)) _ _ refl (star _ (c .if1 .taken))
+
+abbrev at-if1-left : (c : tie.Else1) → Along (c .before .before .before .before .before .before .before .before .before .before .before .before .before .before .before .before .before .before .before .before .before .before .before .before) 1 (c .before .before .before .before .before .before .before .before .before .before .before .patterns .last .1 .0) (c .before .before .before .skipped .given .0 .0)
+unfolding rule.matcher-pattern
+at-if1-left c = where-not (at-keyword-of (c .before)) _ _ refl (no-star _ (c .if1 .left))
+
+returns : tie.Need-returns
+unfolding rule.matcher-pattern
+returns c = lost-here _ (enter (matcher-pattern-pays (c .before .before .before .before .before .args .keep)) (c .before .before .before .before .before .pre .0)) refl (known taken (c .before .before .token .ensures) (c .enum-told .given .1))
+
+returns-2 : tie.Need-returns-2
+unfolding rule.matcher-pattern
+returns-2 c = lost-here _ (at-file (c .before .before .before .before .before)) refl (known read (c .before .before .skip-word-skip .ensures) (c .enum-told2 .given .1))
+
+patterns-requires : tie.Need-patterns-requires
+patterns-requires c κs = (at-opened (c .before .before)) .room
+
+same-length : tie.Need-same-length
+same-length c = c .before .before .before .before .patterns .kept .1 .0 ∙ (at-opened (c .before .before .before .before .before .before .before)) .size
+
+returns-3 : tie.Need-returns-3
+unfolding rule.matcher-pattern
+returns-3 c = halts _ (at-opened (c .before .before .before .before .before .before .before)) refl (not-counted (c .before .before .before .before .patterns .result) (c .before .match3 .keys2)) (runs (c .before .before .before .before .patterns .ensures)) _ (c .step .ensures)
+
+same-length-2 : tie.Need-same-length-2
+same-length-2 c = (at-list (c .before .before .before .before)) .size
+
+returns-4 : tie.Need-returns-4
+unfolding rule.matcher-pattern
+returns-4 c = lost-here _ (at-list (c .before .before .before .before)) refl (known read (c .before .before .skip .ensures) (c .enum-told3 .given .1))
+
+add-push : tie.Need-add-push
+add-push c = record { fits = omega (arith, c .before .before .before .before .before .before .before .before .before .before .before .before .before .before .before .before .before .before .before .before .before .before .before .before .before .pre .1) }
+
+push-requires : tie.Need-push-requires
+push-requires c κs = can-push (at-if1 (c .before))
+
+same-length-3 : tie.Need-same-length-3
+same-length-3 c = c .before .before .push .kept .0 ∙ (at-if1 (c .before .before .before .before)) .size
+
+returns-5 : tie.Need-returns-5
+unfolding rule.matcher-pattern
+returns-5 c = ends-here (at-if1 (c .before .before .before .before)) (added _ _ _ _ _ (c .before .before .push .ensures) (can-push (at-if1 (c .before .before .before .before))))
+
+push-requires-2 : tie.Need-push-requires-2
+push-requires-2 c κs = can-push (at-if1-left (c .before))
+
+same-length-4 : tie.Need-same-length-4
+same-length-4 c = c .before .before .push2 .kept .0 ∙ (at-if1-left (c .before .before .before .before)) .size
+
+returns-6 : tie.Need-returns-6
+unfolding rule.matcher-pattern
+returns-6 c = ends-here (at-if1-left (c .before .before .before .before)) (added _ _ _ _ _ (c .before .before .push2 .ensures) (can-push (at-if1-left (c .before .before .before .before))))
+
+pub matcher-pattern-spec : {M : Type 1} → statement M
+matcher-pattern-spec =
+    tie.close
+    (tie.spec
+    (λ c κs. search needs)
+    (λ c. search needs)
+    (λ c. search needs)
+    returns
+    (λ c. search needs)
+    (λ c κs. search needs)
+    (λ c. search needs)
+    (λ c. search needs)
+    returns-2
+    patterns-requires
+    (λ c. search needs)
+    (λ c κs. search needs)
+    same-length
+    returns-3
+    (λ c κs. search needs)
+    (λ c. search needs)
+    (λ c. search needs)
+    same-length-2
+    returns-4
+    (λ c κs. search needs)
+    add-push
+    push-requires
+    same-length-3
+    returns-5
+    push-requires-2
+    same-length-4
+    returns-6)

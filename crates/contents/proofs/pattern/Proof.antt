@@ -1,0 +1,63 @@
+-- A sort word tells which pattern follows.
+use mathlib.Core.Path.{refl, _∙_}
+use Prim.Native.Nat.{ℕ}
+use mathlib.Core.List.{List}
+use Rattle.rules.specs.Rule.{perhaps}
+use Rattle.rules.specs.Contents as rule
+use Rattle.rules.proofs.Commands.{pattern-pays}
+use Rattle.lex.specs.declared.Cursor.{Cursor}
+use Rattle.lex.proofs.Lexes.{known, given, opt-some, opt-none}
+use Rattle.operators.specs.Answers.{operated}
+use Rattle.tape.proofs.Runs.{runs}
+use Rattle.tape.proofs.Way.{Way, enter, bytes, ends-here}
+use borrow.Author.Needs.{needs}
+use Rattle.contents.proofs.pattern.Statement.{statement}
+use Rattle.contents.proofs.pattern.Tie as tie
+
+abbrev Along : tie.Start → ℕ → List ℕ → Cursor → Type 0
+Along start = Way (rule.pattern) (start .args .script .now) (start .args .tape .now) (start .args .c)
+
+abbrev at-enum-told : (c : tie.After-enum-told) → Along (c .before .before .before .before .before .before .before .before) 0 (c .before .before .before .before .before .before .before .before .args .tape .now) (c .before .before .before .before .before .before .before .before .args .c)
+unfolding rule.pattern rule.sort perhaps
+at-enum-told c = bytes _ (enter (pattern-pays) (c .before .before .before .before .before .before .before .before .pre)) refl (opt-none (known operated (c .before .before .sign-of-three .ensures) (c .enum-told .given .1)))
+
+abbrev at-sort : (c : tie.After-sort) → Along (c .before .before .before .before .before .before .before .before) 0 (c .before .before .before .before .before .before .before .before .args .tape .now) (c .sort .given .0 .1 .0)
+unfolding rule.pattern rule.sort perhaps
+at-sort c = bytes _ (enter (pattern-pays) (c .before .before .before .before .before .before .before .before .pre)) refl (opt-some (known operated (c .before .before .sign-of-three .ensures) (c .sort .given .1)))
+
+plain-pattern-requires : tie.Need-plain-pattern-requires
+plain-pattern-requires c κs = (at-enum-told (c .before)) .room
+
+same-length : tie.Need-same-length
+same-length c = c .before .before .plain-pattern .kept .1 .0 ∙ (at-enum-told (c .before .before .before .before)) .size
+
+returns : tie.Need-returns
+unfolding rule.pattern rule.sort perhaps
+returns c = ends-here (at-enum-told (c .before .before .before .before)) (runs (c .before .before .plain-pattern .ensures))
+
+sorted-pattern-requires : tie.Need-sorted-pattern-requires
+sorted-pattern-requires c κs = (at-sort (c .before .before)) .room
+
+same-length-2 : tie.Need-same-length-2
+same-length-2 c = c .before .before .sorted-pattern .kept .1 .0 ∙ (at-sort (c .before .before .before .before .before)) .size
+
+returns-2 : tie.Need-returns-2
+unfolding rule.pattern rule.sort perhaps
+returns-2 c = ends-here (at-sort (c .before .before .before .before .before)) (runs (c .before .before .sorted-pattern .ensures))
+
+pub pattern-spec : {M : Type 1} → statement M
+pattern-spec =
+    tie.close
+    (tie.spec
+    (λ c. search needs)
+    (λ c. search needs)
+    (λ c. search needs)
+    (λ c κs. search needs)
+    (λ c. search needs)
+    (λ c. search needs)
+    plain-pattern-requires
+    same-length
+    returns
+    sorted-pattern-requires
+    same-length-2
+    returns-2)

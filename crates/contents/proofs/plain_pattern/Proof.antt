@@ -1,0 +1,73 @@
+-- The name pays for the record.
+use mathlib.Core.Path.{refl, _∙_}
+use Prim.Native.Nat.{ℕ}
+use mathlib.Core.List.{List}
+use Rattle.rules.specs.Bytes.{pattern-name}
+use Rattle.rules.specs.Contents as rule
+use Rattle.rules.proofs.Bytes.{pattern-name-pays}
+use Rattle.rules.proofs.Commands.{plain-pattern-pays}
+use Rattle.lex.specs.Contract.{read, taken}
+use Rattle.lex.specs.declared.Cursor.{Cursor}
+use Rattle.lex.proofs.Lexes.{known, given}
+use Rattle.tape.proofs.Runs.{added}
+use Rattle.tape.proofs.Way.{Way, enter, bytes, earning, can-push, lost-here, ends-here}
+use borrow.Author.Needs.{needs}
+use Rattle.contents.proofs.plain_pattern.Statement.{statement}
+use Rattle.contents.proofs.plain_pattern.Tie as tie
+
+abbrev Along : tie.Start → ℕ → List ℕ → Cursor → Type 0
+Along start = Way (rule.plain-pattern) (start .args .script .now) (start .args .tape .now) (start .args .c)
+
+abbrev at-before2 : (c : tie.After-before2) → Along (c .before .before .before .before .before) 0 (c .before .before .before .before .before .args .tape .now) (c .before2 .given .0 .0)
+unfolding rule.plain-pattern pattern-name
+at-before2 c = bytes _ (enter (plain-pattern-pays) (c .before .before .before .before .before .pre)) refl (known read (c .before .before .skip .ensures) (c .before2 .given .1))
+
+abbrev at-name : (c : tie.After-name) → Along (c .before .before .before .before .before .before .before .before .before) 1 (c .before .before .before .before .before .before .before .before .before .args .tape .now) (c .name .given .0 .1 .0)
+unfolding rule.plain-pattern pattern-name
+at-name c = earning _ pattern-name-pays (at-before2 (c .before .before .before .before)) refl (known taken (c .before .before .take-while .ensures) (c .name .given .1))
+
+abbrev at-behind : (c : tie.After-behind) → Along (c .before .before .before .before .before .before .before .before .before .before .before .before .before) 1 (c .before .before .before .before .before .before .before .before .before .before .before .before .before .args .tape .now) (c .behind .given .0 .0)
+unfolding rule.plain-pattern pattern-name
+at-behind c = bytes _ (at-name (c .before .before .before .before)) refl (known read (c .before .before .skip2 .ensures) (c .behind .given .1))
+
+returns : tie.Need-returns
+unfolding rule.plain-pattern pattern-name
+returns c = lost-here _ (enter (plain-pattern-pays) (c .before .before .before .before .before .pre)) refl (known read (c .before .before .skip .ensures) (c .enum-told .given .1))
+
+returns-2 : tie.Need-returns-2
+unfolding rule.plain-pattern pattern-name
+returns-2 c = lost-here _ (at-before2 (c .before .before .before .before)) refl (known taken (c .before .before .take-while .ensures) (c .enum-told2 .given .1))
+
+returns-3 : tie.Need-returns-3
+unfolding rule.plain-pattern pattern-name
+returns-3 c = lost-here _ (at-name (c .before .before .before .before)) refl (known read (c .before .before .skip2 .ensures) (c .enum-told3 .given .1))
+
+push-requires : tie.Need-push-requires
+push-requires c κs = can-push (at-behind (c .before .before))
+
+same-length : tie.Need-same-length
+same-length c = c .before .before .push .kept .0 ∙ (at-behind (c .before .before .before .before .before)) .size
+
+returns-4 : tie.Need-returns-4
+unfolding rule.plain-pattern pattern-name
+returns-4 c = ends-here (at-behind (c .before .before .before .before .before)) (added _ _ _ _ _ (c .before .before .push .ensures) (can-push (at-behind (c .before .before .before .before .before))))
+
+pub plain-pattern-spec : {M : Type 1} → statement M
+plain-pattern-spec =
+    tie.close
+    (tie.spec
+    (λ c κs. search needs)
+    (λ c. search needs)
+    (λ c. search needs)
+    returns
+    (λ c κs. search needs)
+    (λ c. search needs)
+    (λ c. search needs)
+    returns-2
+    (λ c κs. search needs)
+    (λ c. search needs)
+    (λ c. search needs)
+    returns-3
+    push-requires
+    same-length
+    returns-4)

@@ -1,0 +1,98 @@
+-- The name pays for the record.
+use mathlib.Core.Path.{refl, sym, _∙_}
+use Prim.Native.Nat.{ℕ}
+use mathlib.Core.List.{List}
+use Rattle.rules.specs.Bytes.{pattern-name}
+use Rattle.rules.specs.Contents as rule
+use Rattle.rules.proofs.Bytes.{pattern-name-pays}
+use Rattle.rules.proofs.Commands.{sorted-pattern-pays}
+use Rattle.lex.specs.Contract.{read, taken}
+use Rattle.lex.specs.declared.Cursor.{Cursor}
+use Rattle.lex.proofs.Lexes.{known, given, not-tag-read, not-tag-lost}
+use Rattle.tape.proofs.Runs.{added}
+use Rattle.tape.proofs.Way.{Way, enter, bytes, earning, can-push, lost-here, ends-here}
+use borrow.Author.Needs.{needs}
+use Rattle.contents.proofs.sorted_pattern.Statement.{statement}
+use Rattle.contents.proofs.sorted_pattern.Tie as tie
+
+abbrev Along : tie.Start → ℕ → List ℕ → Cursor → Type 0
+Along start = Way (rule.sorted-pattern (start .args .sorted)) (start .args .script .now) (start .args .tape .now) (start .args .c)
+
+abbrev at-opened : (c : tie.After-opened) → Along (c .before .before .before .before .before .before) 0 (c .before .before .before .before .before .before .args .tape .now) (c .opened .given .0 .0)
+unfolding rule.sorted-pattern pattern-name
+at-opened c = bytes _ (enter (sorted-pattern-pays (c .before .before .before .before .before .before .args .sorted)) (c .before .before .before .before .before .before .pre)) refl (known read (c .before .before .skip-word .ensures) (c .opened .given .1))
+
+abbrev at-if1-left : (c : tie.Else1) → Along (c .before .before .before .before .before .before .before .before .before .before) 0 (c .before .before .before .before .before .before .before .before .before .before .args .tape .now) (c .before .before .before .before .opened .given .0 .0)
+unfolding rule.sorted-pattern pattern-name
+at-if1-left c = bytes _ (at-opened (c .before .before .before .before)) refl (not-tag-read _ (sym (c .before .starts .ensures) ∙ c .if1 .left))
+
+abbrev at-skipped : (c : tie.After-skipped) → Along (c .before .before .before .before .before .before .before .before .before .before .before .before .before) 0 (c .before .before .before .before .before .before .before .before .before .before .before .before .before .args .tape .now) (c .skipped .given .0 .0)
+unfolding rule.sorted-pattern pattern-name
+at-skipped c = bytes _ (at-if1-left (c .before .before .before)) refl (known read (c .before .before .skip .ensures) (c .skipped .given .1))
+
+abbrev at-name : (c : tie.After-name) → Along (c .before .before .before .before .before .before .before .before .before .before .before .before .before .before .before .before .before) 1 (c .before .before .before .before .before .before .before .before .before .before .before .before .before .before .before .before .before .args .tape .now) (c .name .given .0 .1 .0)
+unfolding rule.sorted-pattern pattern-name
+at-name c = earning _ pattern-name-pays (at-skipped (c .before .before .before .before)) refl (known taken (c .before .before .take-while .ensures) (c .name .given .1))
+
+abbrev at-closed : (c : tie.After-closed) → Along (c .before .before .before .before .before .before .before .before .before .before .before .before .before .before .before .before .before .before .before .before .before .before) 1 (c .before .before .before .before .before .before .before .before .before .before .before .before .before .before .before .before .before .before .before .before .before .before .args .tape .now) (c .closed .given .0 .0)
+unfolding rule.sorted-pattern pattern-name
+at-closed c = bytes _ (at-name (c .before .before .before .before .before)) refl (known read (c .before .before .skip-word-skip .ensures) (c .closed .given .1))
+
+returns : tie.Need-returns
+unfolding rule.sorted-pattern pattern-name
+returns c = lost-here _ (enter (sorted-pattern-pays (c .before .before .before .before .before .before .args .sorted)) (c .before .before .before .before .before .before .pre)) refl (known read (c .before .before .skip-word .ensures) (c .enum-told .given .1))
+
+returns-2 : tie.Need-returns-2
+unfolding rule.sorted-pattern pattern-name
+returns-2 c = lost-here _ (at-opened (c .before .before .before .before)) refl (not-tag-lost _ (sym (c .before .starts .ensures) ∙ c .if1 .taken))
+
+returns-3 : tie.Need-returns-3
+unfolding rule.sorted-pattern pattern-name
+returns-3 c = lost-here _ (at-if1-left (c .before .before .before)) refl (known read (c .before .before .skip .ensures) (c .enum-told2 .given .1))
+
+returns-4 : tie.Need-returns-4
+unfolding rule.sorted-pattern pattern-name
+returns-4 c = lost-here _ (at-skipped (c .before .before .before .before)) refl (known taken (c .before .before .take-while .ensures) (c .enum-told3 .given .1))
+
+returns-5 : tie.Need-returns-5
+unfolding rule.sorted-pattern pattern-name
+returns-5 c = lost-here _ (at-name (c .before .before .before .before .before)) refl (known read (c .before .before .skip-word-skip .ensures) (c .enum-told4 .given .1))
+
+push-requires : tie.Need-push-requires
+push-requires c κs = can-push (at-closed (c .before .before))
+
+same-length : tie.Need-same-length
+same-length c = c .before .before .push .kept .0 ∙ (at-closed (c .before .before .before .before .before)) .size
+
+returns-6 : tie.Need-returns-6
+unfolding rule.sorted-pattern pattern-name
+returns-6 c = ends-here (at-closed (c .before .before .before .before .before)) (added _ _ _ _ _ (c .before .before .push .ensures) (can-push (at-closed (c .before .before .before .before .before))))
+
+pub sorted-pattern-spec : {M : Type 1} → statement M
+sorted-pattern-spec =
+    tie.close
+    (tie.spec
+    (λ c. search needs)
+    (λ c κs. search needs)
+    (λ c. search needs)
+    (λ c. search needs)
+    returns
+    (λ c. search needs)
+    (λ c κs. search needs)
+    returns-2
+    (λ c κs. search needs)
+    (λ c. search needs)
+    (λ c. search needs)
+    returns-3
+    (λ c κs. search needs)
+    (λ c. search needs)
+    (λ c. search needs)
+    returns-4
+    (λ c. search needs)
+    (λ c κs. search needs)
+    (λ c. search needs)
+    (λ c. search needs)
+    returns-5
+    push-requires
+    same-length
+    returns-6)

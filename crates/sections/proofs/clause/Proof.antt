@@ -1,0 +1,63 @@
+-- AT is tried first.
+use mathlib.Core.Path.{refl, _∙_}
+use Prim.Native.Nat.{ℕ}
+use mathlib.Core.List.{List}
+use Rattle.rules.specs.Rule.{if_then_else_, word}
+use Rattle.rules.specs.Expressions.{expression}
+use Rattle.rules.specs.Sections as rule
+use Rattle.rules.proofs.Expressions.{expression-pays}
+use Rattle.rules.proofs.Commands.{clause-pays}
+use Rattle.lex.specs.Contract.{read}
+use Rattle.lex.specs.declared.Cursor.{Cursor}
+use Rattle.lex.proofs.Lexes.{known, given, opt-some, opt-none}
+use Rattle.tape.proofs.Runs.{runs}
+use Rattle.tape.proofs.Way.{Way, enter, bytes, ends-here}
+use borrow.Author.Needs.{needs}
+use Rattle.sections.proofs.clause.Statement.{statement}
+use Rattle.sections.proofs.clause.Tie as tie
+
+abbrev Along : tie.Start → ℕ → List ℕ → Cursor → Type 0
+Along start = Way (rule.clause (expression (start .args .mode) (start .args .left))) (start .args .script .now) (start .args .tape .now) (start .args .c)
+
+abbrev at-enum-told : (c : tie.After-enum-told) → Along (c .before .before .before .before .before .before) 0 (c .before .before .before .before .before .before .args .tape .now) (c .before .before .before .before .before .before .args .c)
+unfolding rule.clause if_then_else_
+at-enum-told c = bytes _ (enter (clause-pays (expression-pays (c .before .before .before .before .before .before .args .mode) (c .before .before .before .before .before .before .args .left))) (c .before .before .before .before .before .before .pre)) refl (opt-none (known read (c .before .before .word .ensures) (c .enum-told .given .1)))
+
+abbrev at-at : (c : tie.After-at) → Along (c .before .before .before .before .before .before) 0 (c .before .before .before .before .before .before .args .tape .now) (c .at .given .0 .0)
+unfolding rule.clause if_then_else_
+at-at c = bytes _ (enter (clause-pays (expression-pays (c .before .before .before .before .before .before .args .mode) (c .before .before .before .before .before .before .args .left))) (c .before .before .before .before .before .before .pre)) refl (opt-some (known read (c .before .before .word .ensures) (c .at .given .1)))
+
+alignment-requires : tie.Need-alignment-requires
+alignment-requires c κs = (at-enum-told (c .before)) .room
+
+same-length : tie.Need-same-length
+same-length c = c .before .before .alignment .kept .1 .0 ∙ (at-enum-told (c .before .before .before .before)) .size
+
+returns : tie.Need-returns
+unfolding rule.clause if_then_else_
+returns c = ends-here (at-enum-told (c .before .before .before .before)) (runs (c .before .before .alignment .ensures))
+
+bracketed-requires : tie.Need-bracketed-requires
+bracketed-requires c κs = (at-at (c .before .before)) .room
+
+same-length-2 : tie.Need-same-length-2
+same-length-2 c = c .before .before .bracketed .kept .1 .0 ∙ (at-at (c .before .before .before .before .before)) .size
+
+returns-2 : tie.Need-returns-2
+unfolding rule.clause if_then_else_
+returns-2 c = ends-here (at-at (c .before .before .before .before .before)) (runs (c .before .before .bracketed .ensures))
+
+pub clause-spec : {M : Type 1} → statement M
+clause-spec =
+    tie.close
+    (tie.spec
+    (λ c. search needs)
+    (λ c κs. search needs)
+    (λ c. search needs)
+    (λ c. search needs)
+    alignment-requires
+    same-length
+    returns
+    bracketed-requires
+    same-length-2
+    returns-2)

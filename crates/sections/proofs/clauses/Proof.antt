@@ -1,0 +1,114 @@
+-- The loop is the rule's: what is left is the rule of the turns that are left.
+use mathlib.Core.Path.{_≡_, refl, sym, ap, _∙_}
+use Prim.Native.Nat.{ℕ, _+_, _-_}
+use native.Mathlib.Omega.{arith}
+use native.Mathlib.Numerals.{add-one}
+use mathlib.Core.List.{List}
+use lib.ListN.{length}
+use Rattle.rules.specs.Expressions.{expression}
+use Rattle.rules.specs.Sections as rule
+use Rattle.rules.proofs.Expressions.{expression-pays}
+use Rattle.rules.proofs.Commands.{clauses-pays}
+use Rattle.lex.specs.Contract.{taken}
+use Rattle.lex.specs.declared.Cursor.{Cursor}
+use Rattle.lex.proofs.Lexes.{given, refused, asked, sized}
+use Rattle.tape.specs.Contract.{Reads, stepped, counted}
+use Rattle.tape.proofs.Runs.{known-read, runs, as-bytes, as-lost}
+use Rattle.tape.proofs.Way.{Way, Loop, enter, bytes, called, ends-here, halts, not-stepped, where-so, where-not, turn, spent}
+use borrow.Author.Needs.{needs}
+use Rattle.sections.proofs.clauses.Statement.{statement}
+use Rattle.sections.proofs.clauses.Tie as tie
+
+abbrev Inv-loop : tie.InvT-loop
+Inv-loop script tape₀ mode left at₀ k₀ turns₀ mark tape at k turns = Loop (Reads (rule.clauses (expression mode left)) script tape₀ at₀) script (length tape₀) (at₀ .count) (rule.clauses-from (expression mode left) turns k) tape at × (k + turns ≡ length script + 1)
+
+abbrev μ-loop : tie.MeasureT-loop
+μ-loop script tape₀ mode left at₀ k₀ turns₀ mark tape at k turns = turns
+
+abbrev Along : tie.Start Inv-loop μ-loop → ℕ → List ℕ → Cursor → Type 0
+Along start = Way (rule.clauses (expression (start .args .mode) (start .args .left))) (start .args .script .now) (start .args .tape .now) (start .args .c)
+
+abbrev at-turn : (c : tie.In-loop Inv-loop μ-loop) → Along (c .before .before .before .before) 0 (c .before .loop .tape) (c .before .loop .at)
+unfolding rule.clauses rule.clauses-from
+at-turn c = turn (c .before .loop .inv .0 .way) (λ n. rule.clauses-from (expression (c .before .before .before .before .args .mode) (c .before .before .before .before .args .left)) n (c .before .loop .k)) (c .before .loop .inv .0 .left) (c .loop-test .taken)
+
+abbrev at-starts : (c : tie.After-starts Inv-loop μ-loop) → Along (c .before .before .before .before .before .before) 0 (c .before .before .before .loop .tape) (c .before .before .before .loop .at)
+unfolding rule.clauses rule.clauses-from
+at-starts c = bytes _ (at-turn (c .before .before)) refl (asked "{" (c .starts .ensures))
+
+abbrev at-if1 : (c : tie.Then1 Inv-loop μ-loop) → Along (c .before .before .before .before .before .before .before) 0 (c .before .before .before .before .loop .tape) (c .before .before .before .before .loop .at)
+unfolding rule.clauses rule.clauses-from
+at-if1 c = where-so (at-starts (c .before)) _ _ refl (c .if1 .taken)
+
+abbrev at-if1-left : (c : tie.Else1 Inv-loop μ-loop) → Along (c .before .before .before .before .before .before .before) 0 (c .before .before .before .before .loop .tape) (c .before .before .before .before .loop .at)
+unfolding rule.clauses rule.clauses-from
+at-if1-left c = where-not (at-starts (c .before)) _ _ refl (c .if1 .left)
+
+abbrev at-item : (c : tie.After-item Inv-loop μ-loop) → Along (c .before .before .before .before .before .before .before .before .before .before .before .before .before) 0 (c .before .before .before .before .clause .last .1 .0) (c .item .given .0 .0)
+unfolding rule.clauses rule.clauses-from
+at-item c = called _ (at-if1-left (c .before .before .before .before .before .before)) refl (known-read stepped (c .before .before .before .before .clause .ensures) (c .item .given .1)) (c .before .before .before .before .clause .kept .1 .0)
+
+loop-holds : tie.Need-loop-holds Inv-loop μ-loop
+unfolding rule.clauses rule.clauses-from
+loop-holds c = (record { way = bytes _ (enter (clauses-pays (expression-pays (c .before .before .args .mode) (c .before .before .args .left))) (c .before .before .pre)) refl sized; left = ap (λ n. rule.clauses-from (expression (c .before .before .args .mode) (c .before .before .args .left)) n 0) (sym (add-one (length (c .before .before .args .script .now)))) }, omega arith)
+
+same-length : tie.Need-same-length Inv-loop μ-loop
+same-length c = (at-if1 c) .size
+
+returns : tie.Need-returns Inv-loop μ-loop
+unfolding rule.clauses rule.clauses-from
+returns c = ends-here (at-if1 c) (as-bytes (given _))
+
+clause-requires : tie.Need-clause-requires Inv-loop μ-loop
+clause-requires c κs = (at-if1-left (c .before)) .room
+
+same-length-2 : tie.Need-same-length-2 Inv-loop μ-loop
+same-length-2 c = c .before .before .before .before .clause .kept .1 .0 ∙ (at-if1-left (c .before .before .before .before .before .before)) .size
+
+returns-2 : tie.Need-returns-2 Inv-loop μ-loop
+unfolding rule.clauses rule.clauses-from
+returns-2 c = halts _ (at-if1-left (c .before .before .before .before .before .before)) refl (not-stepped (c .before .before .before .before .clause .result) (c .before .match .keys2)) (runs (c .before .before .before .before .clause .ensures)) _ (c .counted .ensures)
+
+add-k : tie.Need-add-k Inv-loop μ-loop
+add-k c = record { fits = omega (arith, c .before .before .before .before .before .before .before .before .before .before .before .loop .inv .1, (c .before .before .before .before .before .before .before .before .before .before .before .loop .inv .0 .way) .room .short, c .before .before .before .before .before .before .before .before .before .before .loop-test .taken) }
+
+sub-turns : tie.Need-sub-turns Inv-loop μ-loop
+sub-turns c = omega (arith, c .before .before .before .before .before .before .before .before .before .before .loop-test .taken)
+
+loop-less : tie.Need-loop-less Inv-loop μ-loop
+loop-less c = omega (arith, c .before .before .before .before .before .before .before .before .before .before .loop-test .taken)
+
+loop-again : tie.Need-loop-again Inv-loop μ-loop
+unfolding rule.clauses rule.clauses-from
+loop-again c = (record { way = (at-item (c .before)); left = ap (λ n. rule.clauses-from (expression (c .before .before .before .before .before .before .before .before .before .before .before .before .before .before .args .mode) (c .before .before .before .before .before .before .before .before .before .before .before .before .before .before .args .left)) (c .before .before .before .before .before .before .before .before .before .before .before .loop .turns - 1) n) (sym (add-one (c .before .before .before .before .before .before .before .before .before .before .before .loop .k))) }, omega (arith, c .before .before .before .before .before .before .before .before .before .before .before .loop .inv .1, c .before .before .before .before .before .before .before .before .before .before .loop-test .taken))
+
+same-length-3 : tie.Need-same-length-3 Inv-loop μ-loop
+same-length-3 c = (c .before .loop .inv .0 .way) .size
+
+returns-3 : tie.Need-returns-3 Inv-loop μ-loop
+unfolding rule.clauses rule.clauses-from
+returns-3 c = spent (c .before .loop .inv .0 .way) (λ n. rule.clauses-from (expression (c .before .before .before .before .args .mode) (c .before .before .before .before .args .left)) n (c .before .loop .k)) (c .before .loop .inv .0 .left) (c .loop-test .left) (as-lost refused)
+
+pub clauses-spec : {M : Type 1} → statement M
+clauses-spec =
+    tie.close
+    (tie.spec
+    Inv-loop
+    μ-loop
+    (λ c. search needs)
+    loop-holds
+    (λ c. search needs)
+    (λ c κs. search needs)
+    same-length
+    returns
+    clause-requires
+    (λ c. search needs)
+    (λ c κs. search needs)
+    same-length-2
+    returns-2
+    add-k
+    sub-turns
+    loop-less
+    loop-again
+    same-length-3
+    returns-3)

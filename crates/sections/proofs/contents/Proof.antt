@@ -1,0 +1,115 @@
+-- The loop is the rule's: what is left is the rule of the turns that are left.
+use mathlib.Core.Path.{_≡_, refl, sym, ap, _∙_}
+use Prim.Native.Nat.{ℕ, _+_, _-_}
+use native.Mathlib.Omega.{arith}
+use native.Mathlib.Numerals.{add-one}
+use mathlib.Core.List.{List}
+use lib.ListN.{length}
+use Rattle.rules.specs.Rule.{if_then_else_, repeating, repeat-till, word}
+use Rattle.rules.specs.Expressions.{expression}
+use Rattle.rules.specs.Contents.{contents-command}
+use Rattle.rules.specs.Sections as rule
+use Rattle.rules.proofs.Pays.{repeats, over}
+use Rattle.rules.proofs.Expressions.{expression-pays}
+use Rattle.rules.proofs.Commands.{contents-command-pays}
+use Rattle.lex.specs.Contract.{read, taken}
+use Rattle.lex.specs.declared.Cursor.{Cursor}
+use Rattle.lex.proofs.Lexes.{known, given, refused, sized, opt-some, opt-none}
+use Rattle.tape.specs.Contract.{Reads, stepped, counted}
+use Rattle.tape.proofs.Runs.{known-read, runs, as-bytes, as-lost}
+use Rattle.tape.proofs.Way.{Way, Loop, enter, bytes, called, ends-here, halts, not-stepped, turn, spent}
+use borrow.Author.Needs.{needs}
+use Rattle.sections.proofs.contents.Statement.{statement}
+use Rattle.sections.proofs.contents.Tie as tie
+
+abbrev Inv-loop : tie.InvT-loop
+Inv-loop script tape₀ mode left at₀ k₀ turns₀ mark tape at k turns = Loop (Reads (repeat-till (contents-command (expression mode left)) (word "}")) script tape₀ at₀) script (length tape₀) (at₀ .count) (repeating (contents-command (expression mode left)) (word "}") turns k) tape at × (k + turns ≡ length script + 1)
+
+abbrev μ-loop : tie.MeasureT-loop
+μ-loop script tape₀ mode left at₀ k₀ turns₀ mark tape at k turns = turns
+
+abbrev Along : tie.Start Inv-loop μ-loop → ℕ → List ℕ → Cursor → Type 0
+Along start = Way (repeat-till (contents-command (expression (start .args .mode) (start .args .left))) (word "}")) (start .args .script .now) (start .args .tape .now) (start .args .c)
+
+abbrev at-turn : (c : tie.In-loop Inv-loop μ-loop) → Along (c .before .before .before .before) 0 (c .before .loop .tape) (c .before .loop .at)
+unfolding repeat-till repeating if_then_else_
+at-turn c = turn (c .before .loop .inv .0 .way) (λ n. repeating (contents-command (expression (c .before .before .before .before .args .mode) (c .before .before .before .before .args .left))) (word "}") n (c .before .loop .k)) (c .before .loop .inv .0 .left) (c .loop-test .taken)
+
+abbrev at-end : (c : tie.After-end Inv-loop μ-loop) → Along (c .before .before .before .before .before .before .before .before) 0 (c .before .before .before .before .before .loop .tape) (c .end .given .0 .0)
+unfolding repeat-till repeating if_then_else_
+at-end c = bytes _ (at-turn (c .before .before .before .before)) refl (opt-some (known read (c .before .before .word .ensures) (c .end .given .1)))
+
+abbrev at-enum-told : (c : tie.After-enum-told Inv-loop μ-loop) → Along (c .before .before .before .before .before .before .before .before) 0 (c .before .before .before .before .before .loop .tape) (c .before .before .before .before .before .loop .at)
+unfolding repeat-till repeating if_then_else_
+at-enum-told c = bytes _ (at-turn (c .before .before .before .before)) refl (opt-none (known read (c .before .before .word .ensures) (c .enum-told .given .1)))
+
+abbrev at-item : (c : tie.After-item Inv-loop μ-loop) → Along (c .before .before .before .before .before .before .before .before .before .before .before .before .before .before) 0 (c .before .before .before .before .contents-command .last .1 .0) (c .item .given .0 .0)
+unfolding repeat-till repeating if_then_else_
+at-item c = called _ (at-enum-told (c .before .before .before .before .before .before)) refl (known-read stepped (c .before .before .before .before .contents-command .ensures) (c .item .given .1)) (c .before .before .before .before .contents-command .kept .1 .0)
+
+loop-holds : tie.Need-loop-holds Inv-loop μ-loop
+unfolding repeat-till repeating if_then_else_
+loop-holds c = (record { way = bytes _ (enter (λ f i. repeats (contents-command-pays (expression-pays (c .before .before .args .mode) (c .before .before .args .left)) f i) (over _)) (c .before .before .pre)) refl sized; left = ap (λ n. repeating (contents-command (expression (c .before .before .args .mode) (c .before .before .args .left))) (word "}") n 0) (sym (add-one (length (c .before .before .args .script .now)))) }, omega arith)
+
+same-length : tie.Need-same-length Inv-loop μ-loop
+same-length c = (at-end (c .before)) .size
+
+returns : tie.Need-returns Inv-loop μ-loop
+unfolding repeat-till repeating if_then_else_
+returns c = ends-here (at-end (c .before)) (as-bytes (given _))
+
+contents-command-requires : tie.Need-contents-command-requires Inv-loop μ-loop
+contents-command-requires c κs = (at-enum-told (c .before)) .room
+
+same-length-2 : tie.Need-same-length-2 Inv-loop μ-loop
+same-length-2 c = c .before .before .before .before .contents-command .kept .1 .0 ∙ (at-enum-told (c .before .before .before .before .before .before)) .size
+
+returns-2 : tie.Need-returns-2 Inv-loop μ-loop
+unfolding repeat-till repeating if_then_else_
+returns-2 c = halts _ (at-enum-told (c .before .before .before .before .before .before)) refl (not-stepped (c .before .before .before .before .contents-command .result) (c .before .match2 .keys2)) (runs (c .before .before .before .before .contents-command .ensures)) _ (c .counted .ensures)
+
+add-k : tie.Need-add-k Inv-loop μ-loop
+add-k c = record { fits = omega (arith, c .before .before .before .before .before .before .before .before .before .before .before .before .loop .inv .1, (c .before .before .before .before .before .before .before .before .before .before .before .before .loop .inv .0 .way) .room .short, c .before .before .before .before .before .before .before .before .before .before .before .loop-test .taken) }
+
+sub-turns : tie.Need-sub-turns Inv-loop μ-loop
+sub-turns c = omega (arith, c .before .before .before .before .before .before .before .before .before .before .before .loop-test .taken)
+
+loop-less : tie.Need-loop-less Inv-loop μ-loop
+loop-less c = omega (arith, c .before .before .before .before .before .before .before .before .before .before .before .loop-test .taken)
+
+loop-again : tie.Need-loop-again Inv-loop μ-loop
+unfolding repeat-till repeating if_then_else_
+loop-again c = (record { way = (at-item (c .before)); left = ap (λ n. repeating (contents-command (expression (c .before .before .before .before .before .before .before .before .before .before .before .before .before .before .before .args .mode) (c .before .before .before .before .before .before .before .before .before .before .before .before .before .before .before .args .left))) (word "}") (c .before .before .before .before .before .before .before .before .before .before .before .before .loop .turns - 1) n) (sym (add-one (c .before .before .before .before .before .before .before .before .before .before .before .before .loop .k))) }, omega (arith, c .before .before .before .before .before .before .before .before .before .before .before .before .loop .inv .1, c .before .before .before .before .before .before .before .before .before .before .before .loop-test .taken))
+
+same-length-3 : tie.Need-same-length-3 Inv-loop μ-loop
+same-length-3 c = (c .before .loop .inv .0 .way) .size
+
+returns-3 : tie.Need-returns-3 Inv-loop μ-loop
+unfolding repeat-till repeating if_then_else_
+returns-3 c = spent (c .before .loop .inv .0 .way) (λ n. repeating (contents-command (expression (c .before .before .before .before .args .mode) (c .before .before .before .before .args .left))) (word "}") n (c .before .loop .k)) (c .before .loop .inv .0 .left) (c .loop-test .left) (as-lost refused)
+
+pub contents-spec : {M : Type 1} → statement M
+contents-spec =
+    tie.close
+    (tie.spec
+    Inv-loop
+    μ-loop
+    (λ c. search needs)
+    loop-holds
+    (λ c. search needs)
+    (λ c κs. search needs)
+    (λ c. search needs)
+    same-length
+    returns
+    (λ c. search needs)
+    contents-command-requires
+    (λ c. search needs)
+    (λ c κs. search needs)
+    same-length-2
+    returns-2
+    add-k
+    sub-turns
+    loop-less
+    loop-again
+    same-length-3
+    returns-3)

@@ -1,0 +1,88 @@
+-- The sign before it pays for the record.
+use mathlib.Core.Path.{refl, _∙_}
+use Prim.Native.Nat.{ℕ}
+use mathlib.Core.List.{List}
+use borrow.Author.Tests.{eq-eqb, ne-eqb}
+use Rattle.rules.specs.Expressions.{expression}
+use Rattle.rules.specs.Sections as rule
+use Rattle.lex.specs.Contract.{taken}
+use Rattle.lex.specs.declared.Cursor.{Cursor}
+use Rattle.lex.proofs.Lexes.{known, given}
+use Rattle.tape.specs.Contract.{stepped}
+use Rattle.tape.proofs.Runs.{known-read, runs, added}
+use Rattle.tape.proofs.Way.{Short, enter-short, bytes, called, can-push, lost-here, ends-here, halts, not-stepped, as-it-is, where-so, where-not}
+use borrow.Author.Needs.{needs}
+use Rattle.sections.proofs.ending.Statement.{statement}
+use Rattle.sections.proofs.ending.Tie as tie
+
+abbrev Along : tie.Start → ℕ → List ℕ → Cursor → Type 0
+Along start = Short (rule.ending (expression (start .args .mode) (start .args .left)) (start .args .kind)) (start .args .script .now) (start .args .tape .now) (start .args .c)
+
+abbrev at-if1 : (c : tie.Then1) → Along (c .before .before .before) 1 (c .before .before .before .args .tape .now) (c .before .before .before .args .c)
+unfolding rule.ending rule.fill
+at-if1 c = where-so (enter-short (c .before .before .before .pre .0) (c .before .before .before .pre .1)) _ _ refl (eq-eqb _ _ (c .if1 .taken))
+
+abbrev at-value : (c : tie.After-value) → Along (c .before .before .before .before .before .before .before .before .before) 1 (c .before .before .before .before .expression .last .1 .0) (c .value .given .0 .0)
+unfolding rule.ending rule.fill
+at-value c = called _ (at-if1 (c .before .before .before .before .before .before)) refl (known-read stepped (c .before .before .before .before .expression .ensures) (c .value .given .1)) (c .before .before .before .before .expression .kept .1 .0)
+
+abbrev at-if1-left : (c : tie.Else1) → Along (c .before .before .before) 1 (c .before .before .before .args .tape .now) (c .before .before .before .args .c)
+unfolding rule.ending rule.fill
+at-if1-left c = where-not (enter-short (c .before .before .before .pre .0) (c .before .before .before .pre .1)) _ _ refl (ne-eqb _ _ (c .if1 .left))
+
+abbrev at-name : (c : tie.After-name) → Along (c .before .before .before .before .before .before) 1 (c .before .before .before .before .before .before .args .tape .now) (c .name .given .0 .1 .0)
+unfolding rule.ending rule.fill
+at-name c = bytes _ (at-if1-left (c .before .before .before)) refl (known taken (c .before .before .token .ensures) (c .name .given .1))
+
+expression-requires : tie.Need-expression-requires
+expression-requires c κs = (at-if1 (c .before)) .room
+
+same-length : tie.Need-same-length
+same-length c = c .before .before .before .expression .kept .1 .0 ∙ (at-if1 (c .before .before .before .before .before)) .size
+
+returns : tie.Need-returns
+unfolding rule.ending rule.fill
+returns c = halts _ (at-if1 (c .before .before .before .before .before)) refl (not-stepped (c .before .before .before .expression .result) (c .match .keys2)) (runs (c .before .before .before .expression .ensures)) tt (as-it-is (stepped (c .before .before .before .expression .result)))
+
+push-requires : tie.Need-push-requires
+push-requires c κs = can-push (at-value (c .before .before))
+
+same-length-2 : tie.Need-same-length-2
+same-length-2 c = c .before .before .push .kept .0 ∙ (at-value (c .before .before .before .before .before)) .size
+
+returns-2 : tie.Need-returns-2
+unfolding rule.ending rule.fill
+returns-2 c = ends-here (at-value (c .before .before .before .before .before)) (added _ _ _ _ _ (c .before .before .push .ensures) (can-push (at-value (c .before .before .before .before .before))))
+
+returns-3 : tie.Need-returns-3
+unfolding rule.ending rule.fill
+returns-3 c = lost-here _ (at-if1-left (c .before .before .before)) refl (known taken (c .before .before .token .ensures) (c .enum-told .given .1))
+
+push-requires-2 : tie.Need-push-requires-2
+push-requires-2 c κs = can-push (at-name (c .before .before))
+
+same-length-3 : tie.Need-same-length-3
+same-length-3 c = c .before .before .push2 .kept .0 ∙ (at-name (c .before .before .before .before .before)) .size
+
+returns-4 : tie.Need-returns-4
+unfolding rule.ending rule.fill
+returns-4 c = ends-here (at-name (c .before .before .before .before .before)) (added _ _ _ _ _ (c .before .before .push2 .ensures) (can-push (at-name (c .before .before .before .before .before))))
+
+pub ending-spec : {M : Type 1} → statement M
+ending-spec =
+    tie.close
+    (tie.spec
+    expression-requires
+    (λ c. search needs)
+    same-length
+    returns
+    push-requires
+    same-length-2
+    returns-2
+    (λ c κs. search needs)
+    (λ c. search needs)
+    (λ c. search needs)
+    returns-3
+    push-requires-2
+    same-length-3
+    returns-4)

@@ -1,0 +1,148 @@
+-- The loop is the rule's: what is left is the rule of the turns that are left.
+use mathlib.Core.Path.{_≡_, refl, sym, ap, _∙_}
+use Prim.Native.Nat.{ℕ, _+_, _-_}
+use native.Mathlib.Omega.{arith}
+use native.Mathlib.Numerals.{add-one}
+use mathlib.Core.List.{List}
+use lib.ListN.{length}
+use Rattle.rules.specs.Rule.{perhaps}
+use Rattle.rules.specs.Expressions.{expression, sign}
+use Rattle.rules.specs.Sections as rule
+use Rattle.rules.proofs.Expressions.{expression-pays}
+use Rattle.rules.proofs.Commands.{ending-sign-pays, ending-costs, endings-pays}
+use Rattle.lex.specs.Contract.{read, taken}
+use Rattle.lex.specs.declared.Cursor.{Cursor}
+use Rattle.lex.proofs.Lexes.{known, given, refused, sized, opt-none}
+use Rattle.operators.specs.Answers.{operated}
+use Rattle.tape.specs.Contract.{Reads, stepped, counted}
+use Rattle.tape.proofs.Runs.{known-run, as-bytes, as-lost}
+use Rattle.tape.proofs.Way.{Way, Loop, enter, bytes, earned-opt, spending, lost-here, ends-here, halts, not-stepped, turn, spent}
+use borrow.Author.Needs.{needs}
+use Rattle.sections.proofs.endings.Statement.{statement}
+use Rattle.sections.proofs.endings.Tie as tie
+
+abbrev Inv-loop : tie.InvT-loop
+Inv-loop script tape₀ mode left at₀ k₀ turns₀ mark₁ mark₂ mark₃ tape at k turns = Loop (Reads (rule.endings (expression mode left)) script tape₀ at₀) script (length tape₀) (at₀ .count) (rule.endings-from (expression mode left) turns k) tape at × (k + turns ≡ length script + 1)
+
+abbrev μ-loop : tie.MeasureT-loop
+μ-loop script tape₀ mode left at₀ k₀ turns₀ mark₁ mark₂ mark₃ tape at k turns = turns
+
+abbrev Along : tie.Start Inv-loop μ-loop → ℕ → List ℕ → Cursor → Type 0
+Along start = Way (rule.endings (expression (start .args .mode) (start .args .left))) (start .args .script .now) (start .args .tape .now) (start .args .c)
+
+abbrev at-turn : (c : tie.In-loop Inv-loop μ-loop) → Along (c .before .before .before .before) 0 (c .before .loop .tape) (c .before .loop .at)
+unfolding rule.endings rule.endings-from rule.ending-sign perhaps
+at-turn c = turn (c .before .loop .inv .0 .way) (λ n. rule.endings-from (expression (c .before .before .before .before .args .mode) (c .before .before .before .before .args .left)) n (c .before .loop .k)) (c .before .loop .inv .0 .left) (c .loop-test .taken)
+
+abbrev at-enum-told : (c : tie.After-enum-told Inv-loop μ-loop) → Along (c .before .before .before .before .before .before .before .before .before .before) 0 (c .before .before .before .before .before .before .before .loop .tape) (c .before .before .before .before .before .before .before .loop .at)
+unfolding rule.endings rule.endings-from rule.ending-sign perhaps
+at-enum-told c = bytes _ (at-turn (c .before .before .before .before .before .before)) refl (opt-none (known operated (c .before .before .sign-of-three .ensures) (c .enum-told .given .1)))
+
+abbrev at-sign : (c : tie.After-sign Inv-loop μ-loop) → Along (c .before .before .before .before .before .before .before .before .before .before) 1 (c .before .before .before .before .before .before .before .loop .tape) (c .sign .given .0 .1 .0)
+unfolding rule.endings rule.endings-from rule.ending-sign perhaps
+at-sign c = earned-opt _ ending-sign-pays (at-turn (c .before .before .before .before .before .before)) refl (known operated (c .before .before .sign-of-three .ensures) (c .sign .given .1))
+
+abbrev at-before2 : (c : tie.After-before2 Inv-loop μ-loop) → Along (c .before .before .before .before .before .before .before .before .before .before .before .before .before .before) 1 (c .before .before .before .before .before .before .before .before .before .before .before .loop .tape) (c .before2 .given .0 .0)
+unfolding rule.endings rule.endings-from rule.ending-sign perhaps
+at-before2 c = bytes _ (at-sign (c .before .before .before .before)) refl (known read (c .before .before .skip .ensures) (c .before2 .given .1))
+
+abbrev at-item : (c : tie.After-item Inv-loop μ-loop) → Along (c .before .before .before .before .before .before .before .before .before .before .before .before .before .before .before .before .before .before .before .before .before) 0 (c .before .before .before .before .ending .last .1 .0) (c .item .given .0 .0)
+unfolding rule.endings rule.endings-from rule.ending-sign perhaps
+at-item c = spending _ (ending-costs (expression-pays (c .before .before .before .before .before .before .before .before .before .before .before .before .before .before .before .before .before .before .before .before .before .args .mode) (c .before .before .before .before .before .before .before .before .before .before .before .before .before .before .before .before .before .before .before .before .before .args .left)) _) (at-before2 (c .before .before .before .before .before .before .before)) refl (known-run stepped (c .before .before .before .before .ending .ensures) (c .item .given .1)) (c .before .before .before .before .ending .kept .1 .0)
+
+abbrev at-behind : (c : tie.After-behind Inv-loop μ-loop) → Along (c .before .before .before .before .before .before .before .before .before .before .before .before .before .before .before .before .before .before .before .before .before .before .before .before .before) 0 (c .before .before .before .before .before .before .before .before .ending .last .1 .0) (c .behind .given .0 .0)
+unfolding rule.endings rule.endings-from rule.ending-sign perhaps
+at-behind c = bytes _ (at-item (c .before .before .before .before)) refl (known read (c .before .before .skip2 .ensures) (c .behind .given .1))
+
+loop-holds : tie.Need-loop-holds Inv-loop μ-loop
+unfolding rule.endings rule.endings-from rule.ending-sign perhaps
+loop-holds c = (record { way = bytes _ (enter (endings-pays (expression-pays (c .before .before .args .mode) (c .before .before .args .left))) (c .before .before .pre)) refl sized; left = ap (λ n. rule.endings-from (expression (c .before .before .args .mode) (c .before .before .args .left)) n 0) (sym (add-one (length (c .before .before .args .script .now)))) }, omega arith)
+
+same-length : tie.Need-same-length Inv-loop μ-loop
+same-length c = (at-enum-told c) .size
+
+returns : tie.Need-returns Inv-loop μ-loop
+unfolding rule.endings rule.endings-from rule.ending-sign perhaps
+returns c = ends-here (at-enum-told c) (as-bytes (given _))
+
+same-length-2 : tie.Need-same-length-2 Inv-loop μ-loop
+same-length-2 c = (at-sign (c .before .before .before .before)) .size
+
+returns-2 : tie.Need-returns-2 Inv-loop μ-loop
+unfolding rule.endings rule.endings-from rule.ending-sign perhaps
+returns-2 c = lost-here _ (at-sign (c .before .before .before .before)) refl (known read (c .before .before .skip .ensures) (c .enum-told2 .given .1))
+
+ending-requires : tie.Need-ending-requires Inv-loop μ-loop
+ending-requires c κs = ((at-before2 (c .before .before)) .room, omega (arith, (at-before2 (c .before .before)) .spare))
+
+same-length-3 : tie.Need-same-length-3 Inv-loop μ-loop
+same-length-3 c = c .before .before .before .before .ending .kept .1 .0 ∙ (at-before2 (c .before .before .before .before .before .before .before)) .size
+
+returns-3 : tie.Need-returns-3 Inv-loop μ-loop
+unfolding rule.endings rule.endings-from rule.ending-sign perhaps
+returns-3 c = halts _ (at-before2 (c .before .before .before .before .before .before .before)) refl (not-stepped (c .before .before .before .before .ending .result) (c .before .match3 .keys2)) (c .before .before .before .before .ending .ensures) _ (c .counted .ensures)
+
+same-length-4 : tie.Need-same-length-4 Inv-loop μ-loop
+same-length-4 c = (at-item (c .before .before .before .before)) .size
+
+returns-4 : tie.Need-returns-4 Inv-loop μ-loop
+unfolding rule.endings rule.endings-from rule.ending-sign perhaps
+returns-4 c = lost-here _ (at-item (c .before .before .before .before)) refl (known read (c .before .before .skip2 .ensures) (c .enum-told3 .given .1))
+
+add-k : tie.Need-add-k Inv-loop μ-loop
+add-k c = record { fits = omega (arith, c .before .before .before .before .before .before .before .before .before .before .before .before .before .before .before .before .before .before .before .before .before .before .before .loop .inv .1, (c .before .before .before .before .before .before .before .before .before .before .before .before .before .before .before .before .before .before .before .before .before .before .before .loop .inv .0 .way) .room .short, c .before .before .before .before .before .before .before .before .before .before .before .before .before .before .before .before .before .before .before .before .before .before .loop-test .taken) }
+
+sub-turns : tie.Need-sub-turns Inv-loop μ-loop
+sub-turns c = omega (arith, c .before .before .before .before .before .before .before .before .before .before .before .before .before .before .before .before .before .before .before .before .before .before .loop-test .taken)
+
+loop-less : tie.Need-loop-less Inv-loop μ-loop
+loop-less c = omega (arith, c .before .before .before .before .before .before .before .before .before .before .before .before .before .before .before .before .before .before .before .before .before .before .loop-test .taken)
+
+loop-again : tie.Need-loop-again Inv-loop μ-loop
+unfolding rule.endings rule.endings-from rule.ending-sign perhaps
+loop-again c = (record { way = (at-behind (c .before)); left = ap (λ n. rule.endings-from (expression (c .before .before .before .before .before .before .before .before .before .before .before .before .before .before .before .before .before .before .before .before .before .before .before .before .before .before .args .mode) (c .before .before .before .before .before .before .before .before .before .before .before .before .before .before .before .before .before .before .before .before .before .before .before .before .before .before .args .left)) (c .before .before .before .before .before .before .before .before .before .before .before .before .before .before .before .before .before .before .before .before .before .before .before .loop .turns - 1) n) (sym (add-one (c .before .before .before .before .before .before .before .before .before .before .before .before .before .before .before .before .before .before .before .before .before .before .before .loop .k))) }, omega (arith, c .before .before .before .before .before .before .before .before .before .before .before .before .before .before .before .before .before .before .before .before .before .before .before .loop .inv .1, c .before .before .before .before .before .before .before .before .before .before .before .before .before .before .before .before .before .before .before .before .before .before .loop-test .taken))
+
+same-length-5 : tie.Need-same-length-5 Inv-loop μ-loop
+same-length-5 c = (c .before .loop .inv .0 .way) .size
+
+returns-5 : tie.Need-returns-5 Inv-loop μ-loop
+unfolding rule.endings rule.endings-from rule.ending-sign perhaps
+returns-5 c = spent (c .before .loop .inv .0 .way) (λ n. rule.endings-from (expression (c .before .before .before .before .args .mode) (c .before .before .before .before .args .left)) n (c .before .loop .k)) (c .before .loop .inv .0 .left) (c .loop-test .left) (as-lost refused)
+
+pub endings-spec : {M : Type 1} → statement M
+endings-spec =
+    tie.close
+    (tie.spec
+    Inv-loop
+    μ-loop
+    (λ c. search needs)
+    loop-holds
+    (λ c. search needs)
+    (λ c. search needs)
+    (λ c. search needs)
+    (λ c κs. search needs)
+    (λ c. search needs)
+    (λ c. search needs)
+    same-length
+    returns
+    (λ c κs. search needs)
+    (λ c. search needs)
+    (λ c. search needs)
+    same-length-2
+    returns-2
+    ending-requires
+    (λ c. search needs)
+    (λ c κs. search needs)
+    same-length-3
+    returns-3
+    (λ c κs. search needs)
+    (λ c. search needs)
+    (λ c. search needs)
+    same-length-4
+    returns-4
+    add-k
+    sub-turns
+    loop-less
+    loop-again
+    same-length-5
+    returns-5)

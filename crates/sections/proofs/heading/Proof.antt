@@ -1,0 +1,111 @@
+-- The loop is the rule's: what is left is the rule of the turns that are left.
+use mathlib.Core.Path.{refl, sym, ap, _∙_}
+use Prim.Native.Nat.{ℕ}
+use native.Mathlib.Omega.{arith}
+use native.Mathlib.Numerals.{add-one}
+use mathlib.Core.List.{List}
+use lib.ListN.{length}
+use Rattle.rules.specs.Expressions.{expression}
+use Rattle.rules.specs.Sections as rule
+use Rattle.rules.proofs.Expressions.{expression-pays}
+use Rattle.rules.proofs.Commands.{heading-part-pays, heading-pays}
+use Rattle.lex.specs.Contract.{taken}
+use Rattle.lex.specs.declared.Cursor.{Cursor}
+use Rattle.lex.proofs.Lexes.{given, refused, asked, sized}
+use Rattle.tape.specs.Contract.{Reads}
+use Rattle.tape.proofs.Runs.{known-run, as-bytes, as-lost}
+use Rattle.tape.proofs.Way.{Way, Loop, enter, bytes, lowered, counting-on, ends-here, halts-low, as-was, where-so, where-not, turn, spent}
+use Rattle.sections.specs.Answers.{headed}
+use Rattle.sections.proofs.Unread.{not-headed}
+use borrow.Author.Needs.{needs}
+use Rattle.sections.proofs.heading.Statement.{statement}
+use Rattle.sections.proofs.heading.Tie as tie
+
+abbrev Inv-loop : tie.InvT-loop
+Inv-loop script tape₀ c mode left at₀ so-far₀ turns₀ mark tape at so-far turns = Loop (Reads (rule.heading (expression mode left)) script tape₀ c) script (length tape₀) (c .count) (rule.heading-from (expression mode left) (c .count) turns so-far) tape at
+
+abbrev μ-loop : tie.MeasureT-loop
+μ-loop script tape₀ c mode left at₀ so-far₀ turns₀ mark tape at so-far turns = turns
+
+abbrev Along : tie.Start Inv-loop μ-loop → ℕ → List ℕ → Cursor → Type 0
+Along start = Way (rule.heading (expression (start .args .mode) (start .args .left))) (start .args .script .now) (start .args .tape .now) (start .args .c)
+
+abbrev at-turn : (c : tie.In-loop Inv-loop μ-loop) → Along (c .before .before .before .before) 0 (c .before .loop .tape) (c .before .loop .at)
+unfolding rule.heading rule.heading-from
+at-turn c = turn (c .before .loop .inv .way) (λ n. rule.heading-from (expression (c .before .before .before .before .args .mode) (c .before .before .before .before .args .left)) (c .before .before .before .before .args .c .count) n (c .before .loop .so-far)) (c .before .loop .inv .left) (c .loop-test .taken)
+
+abbrev at-starts : (c : tie.After-starts Inv-loop μ-loop) → Along (c .before .before .before .before .before .before) 0 (c .before .before .before .loop .tape) (c .before .before .before .loop .at)
+unfolding rule.heading rule.heading-from
+at-starts c = bytes _ (at-turn (c .before .before)) refl (asked ":" (c .starts .ensures))
+
+abbrev at-if1 : (c : tie.Then1 Inv-loop μ-loop) → Along (c .before .before .before .before .before .before .before) 0 (c .before .before .before .before .loop .tape) (c .before .before .before .before .loop .at)
+unfolding rule.heading rule.heading-from
+at-if1 c = where-so (at-starts (c .before)) _ _ refl (c .if1 .taken)
+
+abbrev at-if1-left : (c : tie.Else1 Inv-loop μ-loop) → Along (c .before .before .before .before .before .before .before) 0 (c .before .before .before .before .loop .tape) (c .before .before .before .before .loop .at)
+unfolding rule.heading rule.heading-from
+at-if1-left c = where-not (at-starts (c .before)) _ _ refl (c .if1 .left)
+
+abbrev at-part : (c : tie.After-part Inv-loop μ-loop) → Along (c .before .before .before .before .before .before .before .before .before .before .before .before .before) 0 (c .before .before .before .before .heading-part .last .1 .0) (c .part .given .0 .1 .0)
+unfolding rule.heading rule.heading-from
+at-part c = lowered _ (λ i. heading-part-pays (expression-pays (c .before .before .before .before .before .before .before .before .before .before .before .before .before .args .mode) (c .before .before .before .before .before .before .before .before .before .before .before .before .before .args .left)) (c .before .before .before .before .before .before .before .before .before .before .before .before .before .args .c .count) (c .before .before .before .before .before .before .before .before .before .before .loop .so-far) i) (at-if1-left (c .before .before .before .before .before .before)) refl (known-run headed (c .before .before .before .before .heading-part .ensures) (c .part .given .1)) (c .before .before .before .before .heading-part .kept .1 .0)
+
+loop-holds : tie.Need-loop-holds Inv-loop μ-loop
+unfolding rule.heading rule.heading-from
+loop-holds c = record { way = counting-on (bytes _ (enter (heading-pays (expression-pays (c .before .before .args .mode) (c .before .before .args .left))) (c .before .before .pre)) refl sized) _ refl; left = ap (λ n. rule.heading-from (expression (c .before .before .args .mode) (c .before .before .args .left)) (c .before .before .args .c .count) n (rule.heading-of 0 0)) (sym (add-one (length (c .before .before .args .script .now)))) }
+
+same-length : tie.Need-same-length Inv-loop μ-loop
+same-length c = (at-if1 c) .size
+
+returns : tie.Need-returns Inv-loop μ-loop
+unfolding rule.heading rule.heading-from
+returns c = ends-here (at-if1 c) (as-bytes (given _))
+
+heading-part-requires : tie.Need-heading-part-requires Inv-loop μ-loop
+heading-part-requires c κs = ((at-if1-left (c .before)) .room, (at-if1-left (c .before)) .low)
+
+same-length-2 : tie.Need-same-length-2 Inv-loop μ-loop
+same-length-2 c = c .before .before .before .heading-part .kept .1 .0 ∙ (at-if1-left (c .before .before .before .before .before)) .size
+
+returns-2 : tie.Need-returns-2 Inv-loop μ-loop
+unfolding rule.heading rule.heading-from
+returns-2 c = halts-low _ (at-if1-left (c .before .before .before .before .before)) refl (not-headed (c .before .before .before .heading-part .result) (c .match .keys2)) (c .before .before .before .heading-part .ensures) (c .before .before .before .before .before .before .before .before .before .loop .so-far) (as-was (headed (c .before .before .before .heading-part .result)) (c .before .before .before .before .before .before .before .before .before .loop .so-far) (not-headed (c .before .before .before .heading-part .result) (c .match .keys2)))
+
+sub-turns : tie.Need-sub-turns Inv-loop μ-loop
+sub-turns c = omega (arith, c .before .before .before .before .before .before .before .before .before .before .loop-test .taken)
+
+loop-less : tie.Need-loop-less Inv-loop μ-loop
+loop-less c = omega (arith, c .before .before .before .before .before .before .before .before .before .before .loop-test .taken)
+
+loop-again : tie.Need-loop-again Inv-loop μ-loop
+unfolding rule.heading rule.heading-from
+loop-again c = record { way = (at-part (c .before)); left = refl }
+
+same-length-3 : tie.Need-same-length-3 Inv-loop μ-loop
+same-length-3 c = (c .before .loop .inv .way) .size
+
+returns-3 : tie.Need-returns-3 Inv-loop μ-loop
+unfolding rule.heading rule.heading-from
+returns-3 c = spent (c .before .loop .inv .way) (λ n. rule.heading-from (expression (c .before .before .before .before .args .mode) (c .before .before .before .before .args .left)) (c .before .before .before .before .args .c .count) n (c .before .loop .so-far)) (c .before .loop .inv .left) (c .loop-test .left) (as-lost refused)
+
+pub heading-spec : {M : Type 1} → statement M
+heading-spec =
+    tie.close
+    (tie.spec
+    Inv-loop
+    μ-loop
+    (λ c. search needs)
+    loop-holds
+    (λ c. search needs)
+    (λ c κs. search needs)
+    same-length
+    returns
+    heading-part-requires
+    (λ c. search needs)
+    same-length-2
+    returns-2
+    sub-turns
+    loop-less
+    loop-again
+    same-length-3
+    returns-3)

@@ -1,0 +1,96 @@
+-- Each way through the code is a way through the rule.
+use mathlib.Core.Path.{refl, sym, _∙_}
+use borrow.Author.Tests.{eq-eqb, ne-eqb}
+use Rattle.rules.specs.Rule.{word}
+use Rattle.rules.specs.Keywords.{keyword-of}
+use Rattle.rules.specs.Sections as rule
+use Rattle.lex.specs.Contract.{Lexes, read, taken}
+use Rattle.lex.specs.declared.Cursor.{Cursor}
+use Rattle.lex.proofs.Lexes.{known, given, given-as, refused}
+use Rattle.lex.proofs.Name.{keyed-token}
+use Rattle.lex.proofs.Way.{Trail, set-out, past, missed, arrived, where-so, where-not}
+use borrow.Author.Needs.{needs}
+use Rattle.sections.proofs.section_attribute.Statement.{statement}
+use Rattle.sections.proofs.section_attribute.Tie as tie
+
+abbrev Along : tie.Start → Cursor → Type 0
+Along start = Trail (Lexes (rule.section-attribute) (start .args .script .now) (start .args .c)) (start .args .script .now)
+
+abbrev at-opened : (c : tie.After-opened) → Along (c .before .before .before .before .before) (c .opened .given .0 .0)
+unfolding rule.section-attribute
+at-opened c = past set-out _ refl (known read (c .before .before .word-skip .ensures) (c .opened .given .1))
+
+abbrev at-name : (c : tie.After-name) → Along (c .before .before .before .before .before .before .before .before .before) (c .name .given .0 .1 .0)
+unfolding rule.section-attribute
+at-name c = past (at-opened (c .before .before .before .before)) _ refl (known taken (c .before .before .token .ensures) (c .name .given .1))
+
+abbrev at-skipped : (c : tie.After-skipped) → Along (c .before .before .before .before .before .before .before .before .before .before .before .before .before) (c .skipped .given .0 .0)
+unfolding rule.section-attribute
+at-skipped c = past (at-name (c .before .before .before .before)) _ refl (known read (c .before .before .skip .ensures) (c .skipped .given .1))
+
+abbrev at-keyword-of : (c : tie.After-keyword-of) → Along (c .before .before .before .before .before .before .before .before .before .before .before .before .before .before .before) (c .before .before .skipped .given .0 .0)
+unfolding rule.section-attribute
+at-keyword-of c = past (at-skipped (c .before .before)) _ refl (keyed-token (known taken (c .before .before .before .before .before .before .before .before .token .ensures) (c .before .before .before .before .before .before .name .given .1)) (c .keyword-of .ensures))
+
+abbrev at-if1 : (c : tie.Then1) → Along (c .before .before .before .before .before .before .before .before .before .before .before .before .before .before .before .before .before) (c .before .before .before .before .skipped .given .0 .0)
+unfolding rule.section-attribute
+at-if1 c = where-so (at-keyword-of (c .before .before)) _ _ refl (eq-eqb _ _ (sym (c .before .attribute .ensures) ∙ c .if1 .taken))
+
+abbrev at-if1-left : (c : tie.Else1) → Along (c .before .before .before .before .before .before .before .before .before .before .before .before .before .before .before .before .before) (c .before .before .before .before .skipped .given .0 .0)
+unfolding rule.section-attribute
+at-if1-left c = where-not (at-keyword-of (c .before .before)) _ _ refl (ne-eqb _ _ (λ q. c .if1 .left (c .before .attribute .ensures ∙ q)))
+
+abbrev at-closed : (c : tie.After-closed) → Along (c .before .before .before .before .before .before .before .before .before .before .before .before .before .before .before .before .before .before .before .before .before) (c .closed .given .0 .0)
+unfolding rule.section-attribute
+at-closed c = past (at-if1-left (c .before .before .before .before)) _ refl (known read (c .before .before .word .ensures) (c .closed .given .1))
+
+returns : tie.Need-returns
+unfolding rule.section-attribute
+returns c = missed set-out _ refl (known read (c .before .before .word-skip .ensures) (c .enum-told .given .1))
+
+returns-2 : tie.Need-returns-2
+unfolding rule.section-attribute
+returns-2 c = missed (at-opened (c .before .before .before .before)) _ refl (known taken (c .before .before .token .ensures) (c .enum-told2 .given .1))
+
+returns-3 : tie.Need-returns-3
+unfolding rule.section-attribute
+returns-3 c = missed (at-name (c .before .before .before .before)) _ refl (known read (c .before .before .skip .ensures) (c .enum-told3 .given .1))
+
+returns-4 : tie.Need-returns-4
+unfolding rule.section-attribute
+returns-4 c = arrived (at-if1 c) refused
+
+returns-5 : tie.Need-returns-5
+unfolding rule.section-attribute
+returns-5 c = missed (at-if1-left (c .before .before .before .before)) _ refl (known read (c .before .before .word .ensures) (c .enum-told4 .given .1))
+
+returns-6 : tie.Need-returns-6
+unfolding rule.section-attribute
+returns-6 c = arrived (at-closed (c .before)) (given-as (sym (c .before .before .before .before .before .before .attribute .ensures)))
+
+pub section-attribute-spec : {M : Type 1} → statement M
+section-attribute-spec =
+    tie.close
+    (tie.spec
+    (λ c. search needs)
+    (λ c κs. search needs)
+    (λ c. search needs)
+    (λ c. search needs)
+    returns
+    (λ c κs. search needs)
+    (λ c. search needs)
+    (λ c. search needs)
+    returns-2
+    (λ c κs. search needs)
+    (λ c. search needs)
+    (λ c. search needs)
+    returns-3
+    (λ c κs. search needs)
+    (λ c κs. search needs)
+    returns-4
+    (λ c. search needs)
+    (λ c κs. search needs)
+    (λ c. search needs)
+    (λ c. search needs)
+    returns-5
+    returns-6)

@@ -1,0 +1,87 @@
+-- The brace pays for one of the two records.
+use mathlib.Core.Path.{refl, _∙_}
+use Prim.Native.Nat.{ℕ}
+use native.Mathlib.Omega.{arith}
+use mathlib.Core.List.{List}
+use Rattle.rules.specs.Text.{ascii}
+use Rattle.rules.specs.Expressions.{expression}
+use Rattle.rules.specs.Sections as rule
+use Rattle.rules.proofs.Bytes.{tag-skip-earns}
+use Rattle.lex.specs.Contract.{read}
+use Rattle.lex.specs.declared.Cursor.{Cursor}
+use Rattle.lex.proofs.Lexes.{known, given}
+use Rattle.tape.specs.Contract.{counted}
+use Rattle.tape.proofs.Runs.{known-read, runs}
+use Rattle.tape.proofs.Way.{Short, enter-short, bytes, earning, called, lost-here, ends-here, halts, not-counted}
+use borrow.Author.Needs.{needs}
+use Rattle.sections.proofs.section_body.Statement.{statement}
+use Rattle.sections.proofs.section_body.Tie as tie
+
+abbrev Along : tie.Start → ℕ → List ℕ → Cursor → Type 0
+Along start = Short (rule.section-body (expression (start .args .mode) (start .args .left)) (start .args .name) (start .args .head) (start .args .before)) (start .args .script .now) (start .args .tape .now) (start .args .c)
+
+abbrev at-opened : (c : tie.After-opened) → Along (c .before .before .before .before .before .before) 2 (c .before .before .before .before .before .before .args .tape .now) (c .opened .given .0 .0)
+unfolding rule.section-body
+at-opened c = earning _ (tag-skip-earns (ascii "{") (omega arith)) (enter-short (c .before .before .before .before .before .before .pre .0) (c .before .before .before .before .before .before .pre .1)) refl (known read (c .before .before .word-skip .ensures) (c .opened .given .1))
+
+abbrev at-list : (c : tie.After-list) → Along (c .before .before .before .before .before .before .before .before .before .before .before .before .before) 2 (c .before .before .before .before .contents .last .1 .0) (c .list .given .0 .1 .0)
+unfolding rule.section-body
+at-list c = called _ (at-opened (c .before .before .before .before .before .before .before)) refl (known-read counted (c .before .before .before .before .contents .ensures) (c .list .given .1)) (c .before .before .before .before .contents .kept .1 .0)
+
+abbrev at-skipped : (c : tie.After-skipped) → Along (c .before .before .before .before .before .before .before .before .before .before .before .before .before .before .before .before .before) 2 (c .before .before .before .before .before .before .before .before .contents .last .1 .0) (c .skipped .given .0 .0)
+unfolding rule.section-body
+at-skipped c = bytes _ (at-list (c .before .before .before .before)) refl (known read (c .before .before .skip .ensures) (c .skipped .given .1))
+
+returns : tie.Need-returns
+unfolding rule.section-body
+returns c = lost-here _ (enter-short (c .before .before .before .before .before .before .pre .0) (c .before .before .before .before .before .before .pre .1)) refl (known read (c .before .before .word-skip .ensures) (c .enum-told .given .1))
+
+contents-requires : tie.Need-contents-requires
+contents-requires c κs = (at-opened (c .before .before)) .room
+
+same-length : tie.Need-same-length
+same-length c = c .before .before .before .before .contents .kept .1 .0 ∙ (at-opened (c .before .before .before .before .before .before .before)) .size
+
+returns-2 : tie.Need-returns-2
+unfolding rule.section-body
+returns-2 c = halts _ (at-opened (c .before .before .before .before .before .before .before)) refl (not-counted (c .before .before .before .before .contents .result) (c .before .match2 .keys2)) (runs (c .before .before .before .before .contents .ensures)) _ (c .step .ensures)
+
+same-length-2 : tie.Need-same-length-2
+same-length-2 c = (at-list (c .before .before .before .before)) .size
+
+returns-3 : tie.Need-returns-3
+unfolding rule.section-body
+returns-3 c = lost-here _ (at-list (c .before .before .before .before)) refl (known read (c .before .before .skip .ensures) (c .enum-told2 .given .1))
+
+section-end-requires : tie.Need-section-end-requires
+section-end-requires c κs = ((at-skipped (c .before .before)) .room, omega (arith, (at-skipped (c .before .before)) .spare))
+
+same-length-3 : tie.Need-same-length-3
+same-length-3 c = c .before .before .section-end .kept .1 .0 ∙ (at-skipped (c .before .before .before .before .before)) .size
+
+returns-4 : tie.Need-returns-4
+unfolding rule.section-body
+returns-4 c = ends-here (at-skipped (c .before .before .before .before .before)) (c .before .before .section-end .ensures)
+
+pub section-body-spec : {M : Type 1} → statement M
+section-body-spec =
+    tie.close
+    (tie.spec
+    (λ c. search needs)
+    (λ c κs. search needs)
+    (λ c. search needs)
+    (λ c. search needs)
+    returns
+    contents-requires
+    (λ c. search needs)
+    (λ c κs. search needs)
+    same-length
+    returns-2
+    (λ c κs. search needs)
+    (λ c. search needs)
+    (λ c. search needs)
+    same-length-2
+    returns-3
+    section-end-requires
+    same-length-3
+    returns-4)

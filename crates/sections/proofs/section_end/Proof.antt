@@ -1,0 +1,80 @@
+-- The brace and the name before it pay for the two records.
+use mathlib.Core.Path.{refl, _∙_}
+use Prim.Native.Nat.{ℕ}
+use mathlib.Core.List.{List}
+use Rattle.rules.specs.Expressions.{expression}
+use Rattle.rules.specs.Sections as rule
+use Rattle.lex.specs.Contract.{read}
+use Rattle.lex.specs.declared.Cursor.{Cursor}
+use Rattle.lex.proofs.Lexes.{known, given}
+use Rattle.tape.specs.Contract.{counted}
+use Rattle.tape.proofs.Runs.{known-read, runs, added}
+use Rattle.tape.proofs.Way.{Short, enter-short, bytes, called, pushed, can-push, lost-here, ends-here, halts, not-counted}
+use borrow.Author.Needs.{needs}
+use Rattle.sections.proofs.section_end.Statement.{statement}
+use Rattle.sections.proofs.section_end.Tie as tie
+
+abbrev Along : tie.Start → ℕ → List ℕ → Cursor → Type 0
+Along start = Short (rule.section-end (expression (start .args .mode) (start .args .left)) (start .args .name) (start .args .head) (start .args .before) (start .args .inside)) (start .args .script .now) (start .args .tape .now) (start .args .c)
+
+abbrev at-behind : (c : tie.After-behind) → Along (c .before .before .before .before .before .before .before .before) 2 (c .before .before .before .before .endings .last .1 .0) (c .behind .given .0 .1 .0)
+unfolding rule.section-end
+at-behind c = called _ (enter-short (c .before .before .before .before .before .before .before .before .pre .0) (c .before .before .before .before .before .before .before .before .pre .1)) refl (known-read counted (c .before .before .before .before .endings .ensures) (c .behind .given .1)) (c .before .before .before .before .endings .kept .1 .0)
+
+abbrev at-ended : (c : tie.After-ended) → Along (c .before .before .before .before .before .before .before .before .before .before .before .before .before) 2 (c .before .before .before .before .before .before .before .before .before .endings .last .1 .0) (c .ended .given .0 .0)
+unfolding rule.section-end
+at-ended c = bytes _ (at-behind (c .before .before .before .before .before)) refl (known read (c .before .before .opt-word-skip .ensures) (c .ended .given .1))
+
+abbrev at-push : (c : tie.After-push) → Along (c .before .before .before .before .before .before .before .before .before .before .before .before .before .before .before .before) 1 (c .push .last .0) (c .push .result)
+unfolding rule.section-end
+at-push c = pushed _ _ _ _ _ _ (at-ended (c .before .before .before)) refl (c .push .ensures) (c .push .kept .0)
+
+endings-requires : tie.Need-endings-requires
+endings-requires c κs = (c .before .before .before .pre .0)
+
+same-length : tie.Need-same-length
+same-length c = c .before .before .before .before .endings .kept .1 .0
+
+returns : tie.Need-returns
+unfolding rule.section-end
+returns c = halts _ (enter-short (c .before .before .before .before .before .before .before .before .pre .0) (c .before .before .before .before .before .before .before .before .pre .1)) refl (not-counted (c .before .before .before .before .endings .result) (c .before .match .keys2)) (runs (c .before .before .before .before .endings .ensures)) _ (c .step .ensures)
+
+same-length-2 : tie.Need-same-length-2
+same-length-2 c = (at-behind (c .before .before .before .before .before)) .size
+
+returns-2 : tie.Need-returns-2
+unfolding rule.section-end
+returns-2 c = lost-here _ (at-behind (c .before .before .before .before .before)) refl (known read (c .before .before .opt-word-skip .ensures) (c .enum-told .given .1))
+
+push-requires : tie.Need-push-requires
+push-requires c κs = can-push (at-ended (c .before .before))
+
+push-requires-2 : tie.Need-push-requires-2
+push-requires-2 c κs = can-push (at-push (c .before .before .before))
+
+same-length-3 : tie.Need-same-length-3
+same-length-3 c = c .before .before .push2 .kept .0 ∙ (at-push (c .before .before .before .before .before .before)) .size
+
+returns-3 : tie.Need-returns-3
+unfolding rule.section-end
+returns-3 c = ends-here (at-push (c .before .before .before .before .before .before)) (added _ _ _ _ _ (c .before .before .push2 .ensures) (can-push (at-push (c .before .before .before .before .before .before))))
+
+pub section-end-spec : {M : Type 1} → statement M
+section-end-spec =
+    tie.close
+    (tie.spec
+    endings-requires
+    (λ c. search needs)
+    (λ c κs. search needs)
+    same-length
+    returns
+    (λ c. search needs)
+    (λ c κs. search needs)
+    (λ c. search needs)
+    (λ c. search needs)
+    same-length-2
+    returns-2
+    push-requires
+    push-requires-2
+    same-length-3
+    returns-3)

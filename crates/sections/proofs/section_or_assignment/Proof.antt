@@ -1,0 +1,65 @@
+-- A sign tells an assignment from a section.
+use mathlib.Core.Path.{refl, _∙_}
+use Prim.Native.Nat.{ℕ}
+use native.Mathlib.Omega.{arith}
+use mathlib.Core.List.{List}
+use Rattle.rules.specs.Rule.{perhaps}
+use Rattle.rules.specs.Expressions.{expression, sign}
+use Rattle.rules.specs.Sections as rule
+use Rattle.rules.proofs.Commands.{assignment-op-pays}
+use Rattle.lex.specs.declared.Cursor.{Cursor}
+use Rattle.lex.proofs.Lexes.{given}
+use Rattle.operators.specs.Answers.{operated}
+use Rattle.tape.proofs.Runs.{known-read}
+use Rattle.tape.proofs.Way.{Short, enter-short, called, gained-opt, ends-here, opt-unread}
+use borrow.Author.Needs.{needs}
+use Rattle.sections.proofs.section_or_assignment.Statement.{statement}
+use Rattle.sections.proofs.section_or_assignment.Tie as tie
+
+abbrev Along : tie.Start → ℕ → List ℕ → Cursor → Type 0
+Along start = Short (rule.section-or-assignment (expression (start .args .mode) (start .args .left)) (start .args .name) (start .args .dot)) (start .args .script .now) (start .args .tape .now) (start .args .c)
+
+abbrev at-enum-told : (c : tie.After-enum-told) → Along (c .before .before .before .before .before .before .before .before) 1 (c .before .before .before .before .assignment-op .last .1 .0) (c .before .before .before .before .before .before .before .before .args .c)
+unfolding rule.section-or-assignment perhaps
+at-enum-told c = called _ (enter-short (c .before .before .before .before .before .before .before .before .pre .0) (c .before .before .before .before .before .before .before .before .pre .1)) refl (opt-unread ((c .before .before .before .before .before .before .before .before .pre .0)) (known-read operated (c .before .before .before .before .assignment-op .ensures) (c .enum-told .given .1))) (c .before .before .before .before .assignment-op .kept .1 .0)
+
+abbrev at-sign : (c : tie.After-sign) → Along (c .before .before .before .before .before .before .before .before) 2 (c .before .before .before .before .assignment-op .last .1 .0) (c .sign .given .0 .1 .0)
+unfolding rule.section-or-assignment perhaps
+at-sign c = gained-opt _ (assignment-op-pays _ _) (enter-short (c .before .before .before .before .before .before .before .before .pre .0) (c .before .before .before .before .before .before .before .before .pre .1)) refl (known-read operated (c .before .before .before .before .assignment-op .ensures) (c .sign .given .1)) (c .before .before .before .before .assignment-op .kept .1 .0)
+
+assignment-op-requires : tie.Need-assignment-op-requires
+assignment-op-requires c κs = (c .before .before .before .pre .0)
+
+section-requires : tie.Need-section-requires
+section-requires c κs = ((at-enum-told (c .before)) .room, omega (arith, (at-enum-told (c .before)) .spare))
+
+same-length : tie.Need-same-length
+same-length c = c .before .before .section .kept .1 .0 ∙ (at-enum-told (c .before .before .before .before)) .size
+
+returns : tie.Need-returns
+unfolding rule.section-or-assignment perhaps
+returns c = ends-here (at-enum-told (c .before .before .before .before)) (c .before .before .section .ensures)
+
+section-assignment-requires : tie.Need-section-assignment-requires
+section-assignment-requires c κs = ((at-sign (c .before .before)) .room, omega (arith, (at-sign (c .before .before)) .spare))
+
+same-length-2 : tie.Need-same-length-2
+same-length-2 c = c .before .before .section-assignment .kept .1 .0 ∙ (at-sign (c .before .before .before .before .before)) .size
+
+returns-2 : tie.Need-returns-2
+unfolding rule.section-or-assignment perhaps
+returns-2 c = ends-here (at-sign (c .before .before .before .before .before)) (c .before .before .section-assignment .ensures)
+
+pub section-or-assignment-spec : {M : Type 1} → statement M
+section-or-assignment-spec =
+    tie.close
+    (tie.spec
+    assignment-op-requires
+    (λ c. search needs)
+    (λ c. search needs)
+    section-requires
+    same-length
+    returns
+    section-assignment-requires
+    same-length-2
+    returns-2)

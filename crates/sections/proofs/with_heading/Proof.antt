@@ -1,0 +1,22 @@
+-- By cases on the answer.
+use mathlib.Core.Path.{sym, ap}
+use Rattle.rules.specs.Sections as rule
+use Rattle.lex.proofs.Lexes.{given}
+use Rattle.tape.specs.Contract.{stepped, valued}
+use borrow.Author.Needs.{needs}
+use Rattle.sections.proofs.with_heading.Statement.{statement}
+use Rattle.sections.proofs.with_heading.Tie as tie
+
+returns : tie.Need-returns
+returns c = sym (ap (λ r. valued (c .before .before .before .args .head) (stepped r)) (c .before .step .given .1))
+
+pub with-heading-spec : {M : Type 1} → statement M
+with-heading-spec =
+    tie.close
+    (tie.spec
+    (λ c. search needs)
+    (λ c. search needs)
+    (λ c. search needs)
+    returns
+    (λ c. search needs)
+    (λ c. search needs))

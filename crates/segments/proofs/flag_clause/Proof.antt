@@ -1,0 +1,99 @@
+-- The word before it pays for the record.
+use mathlib.Core.Path.{refl, _∙_}
+use Prim.Native.Nat.{ℕ}
+use mathlib.Core.List.{List}
+use borrow.Author.Tests.{eq-eqb, ne-eqb}
+use Rattle.rules.specs.Rule.{word}
+use Rattle.rules.specs.Expressions.{expression}
+use Rattle.rules.specs.Commands as rule
+use Rattle.lex.specs.Contract.{read, taken}
+use Rattle.lex.specs.declared.Cursor.{Cursor}
+use Rattle.lex.proofs.Lexes.{known, given}
+use Rattle.tape.specs.Contract.{stepped}
+use Rattle.tape.proofs.Runs.{known-read, runs, added, as-bytes}
+use Rattle.tape.proofs.Way.{Short, enter-short, bytes, called, can-push, lost-here, ends-here, halts, not-stepped, as-it-is, where-so, where-not}
+use borrow.Author.Needs.{needs}
+use Rattle.segments.proofs.flag_clause.Statement.{statement}
+use Rattle.segments.proofs.flag_clause.Tie as tie
+
+abbrev Along : tie.Start → ℕ → List ℕ → Cursor → Type 0
+Along start = Short (rule.flag-clause (expression (start .args .mode) (start .args .left)) (start .args .which)) (start .args .script .now) (start .args .tape .now) (start .args .c)
+
+abbrev at-if1 : (c : tie.Then1) → Along (c .before .before .before) 1 (c .before .before .before .args .tape .now) (c .before .before .before .args .c)
+unfolding rule.flag-clause
+at-if1 c = where-not (enter-short (c .before .before .before .pre .0) (c .before .before .before .pre .1)) _ _ refl (ne-eqb _ _ (c .if1 .taken))
+
+abbrev at-if1-left : (c : tie.Else1) → Along (c .before .before .before) 1 (c .before .before .before .args .tape .now) (c .before .before .before .args .c)
+unfolding rule.flag-clause
+at-if1-left c = where-so (enter-short (c .before .before .before .pre .0) (c .before .before .before .pre .1)) _ _ refl (eq-eqb _ _ (c .if1 .left))
+
+abbrev at-opened : (c : tie.After-opened) → Along (c .before .before .before .before .before .before .before) 1 (c .before .before .before .before .before .before .before .args .tape .now) (c .opened .given .0 .0)
+unfolding rule.flag-clause
+at-opened c = bytes _ (at-if1-left (c .before .before .before .before)) refl (known read (c .before .before .word .ensures) (c .opened .given .1))
+
+abbrev at-value : (c : tie.After-value) → Along (c .before .before .before .before .before .before .before .before .before .before .before .before .before .before) 1 (c .before .before .before .before .expression .last .1 .0) (c .value .given .0 .0)
+unfolding rule.flag-clause
+at-value c = called _ (at-opened (c .before .before .before .before .before .before .before)) refl (known-read stepped (c .before .before .before .before .expression .ensures) (c .value .given .1)) (c .before .before .before .before .expression .kept .1 .0)
+
+abbrev at-closed : (c : tie.After-closed) → Along (c .before .before .before .before .before .before .before .before .before .before .before .before .before .before .before .before .before .before .before) 1 (c .before .before .before .before .before .before .before .before .before .expression .last .1 .0) (c .closed .given .0 .0)
+unfolding rule.flag-clause
+at-closed c = bytes _ (at-value (c .before .before .before .before .before)) refl (known read (c .before .before .word2 .ensures) (c .closed .given .1))
+
+returns : tie.Need-returns
+unfolding rule.flag-clause
+returns c = ends-here (at-if1 c) (as-bytes (given _))
+
+returns-2 : tie.Need-returns-2
+unfolding rule.flag-clause
+returns-2 c = lost-here _ (at-if1-left (c .before .before .before .before)) refl (known read (c .before .before .word .ensures) (c .enum-told .given .1))
+
+expression-requires : tie.Need-expression-requires
+expression-requires c κs = (at-opened (c .before .before)) .room
+
+same-length : tie.Need-same-length
+same-length c = c .before .before .before .expression .kept .1 .0 ∙ (at-opened (c .before .before .before .before .before .before)) .size
+
+returns-3 : tie.Need-returns-3
+unfolding rule.flag-clause
+returns-3 c = halts _ (at-opened (c .before .before .before .before .before .before)) refl (not-stepped (c .before .before .before .expression .result) (c .match2 .keys2)) (runs (c .before .before .before .expression .ensures)) tt (as-it-is (stepped (c .before .before .before .expression .result)))
+
+same-length-2 : tie.Need-same-length-2
+same-length-2 c = (at-value (c .before .before .before .before .before)) .size
+
+returns-4 : tie.Need-returns-4
+unfolding rule.flag-clause
+returns-4 c = lost-here _ (at-value (c .before .before .before .before .before)) refl (known read (c .before .before .word2 .ensures) (c .enum-told2 .given .1))
+
+push-requires : tie.Need-push-requires
+push-requires c κs = can-push (at-closed (c .before .before))
+
+same-length-3 : tie.Need-same-length-3
+same-length-3 c = c .before .before .push .kept .0 ∙ (at-closed (c .before .before .before .before .before)) .size
+
+returns-5 : tie.Need-returns-5
+unfolding rule.flag-clause
+returns-5 c = ends-here (at-closed (c .before .before .before .before .before)) (added _ _ _ _ _ (c .before .before .push .ensures) (can-push (at-closed (c .before .before .before .before .before))))
+
+pub flag-clause-spec : {M : Type 1} → statement M
+flag-clause-spec =
+    tie.close
+    (tie.spec
+    returns
+    (λ c. search needs)
+    (λ c κs. search needs)
+    (λ c. search needs)
+    (λ c. search needs)
+    returns-2
+    expression-requires
+    (λ c. search needs)
+    same-length
+    returns-3
+    (λ c. search needs)
+    (λ c κs. search needs)
+    (λ c. search needs)
+    (λ c. search needs)
+    same-length-2
+    returns-4
+    push-requires
+    same-length-3
+    returns-5)

@@ -1,0 +1,124 @@
+-- The name pays for the record.
+use mathlib.Core.Path.{refl, _∙_}
+use Prim.Native.Nat.{ℕ}
+use mathlib.Core.List.{List}
+use lib.ListN.{length}
+use Rattle.rules.specs.Expressions.{expression}
+use Rattle.rules.specs.Commands as rule
+use Rattle.rules.proofs.Bytes.{token-pays}
+use Rattle.rules.proofs.Expressions.{expression-pays}
+use Rattle.rules.proofs.Commands.{memory-region-pays}
+use Rattle.lex.specs.Contract.{read, taken}
+use Rattle.lex.specs.declared.Cursor.{Cursor}
+use Rattle.lex.proofs.Lexes.{known, given}
+use Rattle.tape.specs.Contract.{stepped}
+use Rattle.tape.proofs.Runs.{known-read, runs, added}
+use Rattle.tape.proofs.Way.{Way, enter, bytes, earning, called, can-push, lost-here, ends-here, halts, not-stepped, as-it-is}
+use borrow.Author.Needs.{needs}
+use Rattle.segments.proofs.memory_region.Statement.{statement}
+use Rattle.segments.proofs.memory_region.Tie as tie
+
+abbrev Along : tie.Start → ℕ → List ℕ → Cursor → Type 0
+Along start = Way (rule.memory-region (expression (start .args .mode) (start .args .left))) (start .args .script .now) (start .args .tape .now) (start .args .c)
+
+abbrev at-name : (c : tie.After-name) → Along (c .before .before .before .before .before) 1 (c .before .before .before .before .before .args .tape .now) (c .name .given .0 .1 .0)
+unfolding rule.memory-region
+at-name c = earning _ token-pays (enter (memory-region-pays (expression-pays (c .before .before .before .before .before .args .mode) (c .before .before .before .before .before .args .left))) (c .before .before .before .before .before .pre)) refl (known taken (c .before .before .token .ensures) (c .name .given .1))
+
+abbrev at-colon : (c : tie.After-colon) → Along (c .before .before .before .before .before .before .before .before .before .before) 1 (c .before .before .before .before .before .before .before .before .before .before .args .tape .now) (c .colon .given .0 .0)
+unfolding rule.memory-region
+at-colon c = bytes _ (at-name (c .before .before .before .before .before)) refl (known read (c .before .before .skip-word-skip .ensures) (c .colon .given .1))
+
+abbrev at-origin : (c : tie.After-origin) → Along (c .before .before .before .before .before .before .before .before .before .before .before .before .before .before .before .before .before .before .before .before) 1 (c .before .before .before .before .bound .last .1 .0) (c .origin .given .0 .0)
+unfolding rule.memory-region
+at-origin c = called _ (at-colon (c .before .before .before .before .before .before .before .before .before .before)) refl (known-read stepped (c .before .before .before .before .bound .ensures) (c .origin .given .1)) (c .before .before .before .before .bound .kept .1 .0)
+
+abbrev at-comma : (c : tie.After-comma) → Along (c .before .before .before .before .before .before .before .before .before .before .before .before .before .before .before .before .before .before .before .before .before .before .before .before .before) 1 (c .before .before .before .before .before .before .before .before .before .bound .last .1 .0) (c .comma .given .0 .0)
+unfolding rule.memory-region
+at-comma c = bytes _ (at-origin (c .before .before .before .before .before)) refl (known read (c .before .before .skip-word-skip2 .ensures) (c .comma .given .1))
+
+abbrev at-length : (c : tie.After-length) → Along (c .before .before .before .before .before .before .before .before .before .before .before .before .before .before .before .before .before .before .before .before .before .before .before .before .before .before .before .before .before .before .before .before .before .before .before) 1 (c .before .before .before .before .bound2 .last .1 .0) (c .length .given .0 .0)
+unfolding rule.memory-region
+at-length c = called _ (at-comma (c .before .before .before .before .before .before .before .before .before .before)) refl (known-read stepped (c .before .before .before .before .bound2 .ensures) (c .length .given .1)) (c .before .before .before .before .bound2 .kept .1 .0)
+
+returns : tie.Need-returns
+unfolding rule.memory-region
+returns c = lost-here _ (enter (memory-region-pays (expression-pays (c .before .before .before .before .before .args .mode) (c .before .before .before .before .before .args .left))) (c .before .before .before .before .before .pre)) refl (known taken (c .before .before .token .ensures) (c .enum-told .given .1))
+
+returns-2 : tie.Need-returns-2
+unfolding rule.memory-region
+returns-2 c = lost-here _ (at-name (c .before .before .before .before .before)) refl (known read (c .before .before .skip-word-skip .ensures) (c .enum-told2 .given .1))
+
+bound-requires : tie.Need-bound-requires
+bound-requires c κs = (at-colon (c .before .before .before .before .before)) .room
+
+same-length : tie.Need-same-length
+same-length c = c .before .before .before .bound .kept .1 .0 ∙ (at-colon (c .before .before .before .before .before .before .before .before .before)) .size
+
+returns-3 : tie.Need-returns-3
+unfolding rule.memory-region
+returns-3 c = halts _ (at-colon (c .before .before .before .before .before .before .before .before .before)) refl (not-stepped (c .before .before .before .bound .result) (c .match3 .keys2)) (runs (c .before .before .before .bound .ensures)) tt (as-it-is (stepped (c .before .before .before .bound .result)))
+
+same-length-2 : tie.Need-same-length-2
+same-length-2 c = (at-origin (c .before .before .before .before .before)) .size
+
+returns-4 : tie.Need-returns-4
+unfolding rule.memory-region
+returns-4 c = lost-here _ (at-origin (c .before .before .before .before .before)) refl (known read (c .before .before .skip-word-skip2 .ensures) (c .enum-told3 .given .1))
+
+bound-requires-2 : tie.Need-bound-requires-2
+bound-requires-2 c κs = (at-comma (c .before .before .before .before .before)) .room
+
+same-length-3 : tie.Need-same-length-3
+same-length-3 c = c .before .before .before .bound2 .kept .1 .0 ∙ (at-comma (c .before .before .before .before .before .before .before .before .before)) .size
+
+returns-5 : tie.Need-returns-5
+unfolding rule.memory-region
+returns-5 c = halts _ (at-comma (c .before .before .before .before .before .before .before .before .before)) refl (not-stepped (c .before .before .before .bound2 .result) (c .match5 .keys2)) (runs (c .before .before .before .bound2 .ensures)) tt (as-it-is (stepped (c .before .before .before .bound2 .result)))
+
+push-requires : tie.Need-push-requires
+push-requires c κs = can-push (at-length (c .before .before))
+
+same-length-4 : tie.Need-same-length-4
+same-length-4 c = c .before .before .push .kept .0 ∙ (at-length (c .before .before .before .before .before)) .size
+
+returns-6 : tie.Need-returns-6
+unfolding rule.memory-region
+returns-6 c = ends-here (at-length (c .before .before .before .before .before)) (added _ _ _ _ _ (c .before .before .push .ensures) (can-push (at-length (c .before .before .before .before .before))))
+
+pub memory-region-spec : {M : Type 1} → statement M
+memory-region-spec =
+    tie.close
+    (tie.spec
+    (λ c κs. search needs)
+    (λ c. search needs)
+    (λ c. search needs)
+    returns
+    (λ c. search needs)
+    (λ c κs. search needs)
+    (λ c. search needs)
+    (λ c. search needs)
+    returns-2
+    (λ c. search needs)
+    (λ c. search needs)
+    (λ c. search needs)
+    bound-requires
+    (λ c. search needs)
+    same-length
+    returns-3
+    (λ c. search needs)
+    (λ c κs. search needs)
+    (λ c. search needs)
+    (λ c. search needs)
+    same-length-2
+    returns-4
+    (λ c. search needs)
+    (λ c. search needs)
+    (λ c. search needs)
+    bound-requires-2
+    (λ c. search needs)
+    same-length-3
+    returns-5
+    push-requires
+    same-length-4
+    returns-6)

@@ -1,0 +1,64 @@
+-- A PT_ word or an expression pays for itself.
+use mathlib.Core.Path.{refl, _∙_}
+use Prim.Native.Nat.{ℕ}
+use mathlib.Core.List.{List}
+use Rattle.rules.specs.Expressions.{expression}
+use Rattle.rules.specs.Commands as rule
+use Rattle.rules.proofs.Expressions.{expression-pays}
+use Rattle.rules.proofs.Commands.{segment-kind-pays}
+use Rattle.lex.specs.Contract.{taken}
+use Rattle.lex.specs.declared.Cursor.{Cursor}
+use Rattle.lex.proofs.Lexes.{asked}
+use Rattle.tape.proofs.Runs.{runs}
+use Rattle.tape.proofs.Way.{Way, enter, bytes, ends-here, where-so, where-not}
+use borrow.Author.Needs.{needs}
+use Rattle.segments.proofs.segment_kind.Statement.{statement}
+use Rattle.segments.proofs.segment_kind.Tie as tie
+
+abbrev Along : tie.Start → ℕ → List ℕ → Cursor → Type 0
+Along start = Way (rule.segment-kind (expression (start .args .mode) (start .args .left))) (start .args .script .now) (start .args .tape .now) (start .args .c)
+
+abbrev at-starts : (c : tie.After-starts) → Along (c .before .before .before .before) 0 (c .before .before .before .before .args .tape .now) (c .before .before .before .before .args .c)
+unfolding rule.segment-kind
+at-starts c = bytes _ (enter (segment-kind-pays (expression-pays (c .before .before .before .before .args .mode) (c .before .before .before .before .args .left))) (c .before .before .before .before .pre)) refl (asked "PT_" (c .starts .ensures))
+
+abbrev at-if1 : (c : tie.Then1) → Along (c .before .before .before .before .before) 0 (c .before .before .before .before .before .args .tape .now) (c .before .before .before .before .before .args .c)
+unfolding rule.segment-kind
+at-if1 c = where-so (at-starts (c .before)) _ _ refl (c .if1 .taken)
+
+abbrev at-if1-left : (c : tie.Else1) → Along (c .before .before .before .before .before) 0 (c .before .before .before .before .before .args .tape .now) (c .before .before .before .before .before .args .c)
+unfolding rule.segment-kind
+at-if1-left c = where-not (at-starts (c .before)) _ _ refl (c .if1 .left)
+
+segment-number-requires : tie.Need-segment-number-requires
+segment-number-requires c κs = (at-if1 (c .before)) .room
+
+same-length : tie.Need-same-length
+same-length c = c .before .before .segment-number .kept .1 .0 ∙ (at-if1 (c .before .before .before .before)) .size
+
+returns : tie.Need-returns
+unfolding rule.segment-kind
+returns c = ends-here (at-if1 (c .before .before .before .before)) (runs (c .before .before .segment-number .ensures))
+
+expression-requires : tie.Need-expression-requires
+expression-requires c κs = (at-if1-left (c .before)) .room
+
+same-length-2 : tie.Need-same-length-2
+same-length-2 c = c .before .before .expression .kept .1 .0 ∙ (at-if1-left (c .before .before .before .before)) .size
+
+returns-2 : tie.Need-returns-2
+unfolding rule.segment-kind
+returns-2 c = ends-here (at-if1-left (c .before .before .before .before)) (runs (c .before .before .expression .ensures))
+
+pub segment-kind-spec : {M : Type 1} → statement M
+segment-kind-spec =
+    tie.close
+    (tie.spec
+    (λ c. search needs)
+    (λ c κs. search needs)
+    segment-number-requires
+    same-length
+    returns
+    expression-requires
+    same-length-2
+    returns-2)

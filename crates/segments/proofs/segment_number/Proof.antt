@@ -1,0 +1,75 @@
+-- The word pays for the record of its number.
+use mathlib.Core.Path.{refl, sym, ap, _∙_}
+use Prim.Native.Nat.{ℕ}
+use mathlib.Core.List.{List}
+use Rattle.rules.specs.Rule.{perhaps}
+use Rattle.rules.specs.Keywords.{keyword-of}
+use Rattle.rules.specs.Commands as rule
+use Rattle.rules.proofs.Bytes.{token-pays}
+use Rattle.rules.proofs.Commands.{segment-number-pays}
+use Rattle.lex.specs.Contract.{taken}
+use Rattle.lex.specs.declared.Cursor.{Cursor}
+use Rattle.lex.proofs.Lexes.{known, given, refused}
+use Rattle.lex.proofs.Name.{keyed-token}
+use Rattle.tape.proofs.Runs.{added, as-lost}
+use Rattle.tape.proofs.Way.{Way, enter, bytes, earning, can-push, lost-here, ends-here}
+use Rattle.rules.specs.Rule.{add, fails}
+use Rattle.tape.proofs.Way.{same-as}
+use Rattle.keywords.specs.Words.{typed}
+use borrow.Author.Needs.{needs}
+use Rattle.segments.proofs.segment_number.Statement.{statement}
+use Rattle.segments.proofs.segment_number.Tie as tie
+
+abbrev Along : tie.Start → ℕ → List ℕ → Cursor → Type 0
+Along start = Way (rule.segment-number) (start .args .script .now) (start .args .tape .now) (start .args .c)
+
+abbrev at-name : (c : tie.After-name) → Along (c .before .before .before .before .before) 1 (c .before .before .before .before .before .args .tape .now) (c .name .given .0 .1 .0)
+unfolding rule.segment-number perhaps
+at-name c = earning _ token-pays (enter (segment-number-pays) (c .before .before .before .before .before .pre)) refl (known taken (c .before .before .token .ensures) (c .name .given .1))
+
+abbrev at-keyword-of : (c : tie.After-keyword-of) → Along (c .before .before .before .before .before .before .before) 1 (c .before .before .before .before .before .before .before .args .tape .now) (c .before .before .name .given .0 .1 .0)
+unfolding rule.segment-number perhaps
+at-keyword-of c = bytes _ (at-name (c .before .before)) refl (keyed-token (known taken (c .before .before .before .before .token .ensures) (c .before .before .name .given .1)) (c .keyword-of .ensures))
+
+abbrev at-enum-told2 : (c : tie.After-enum-told2) → Along (c .before .before .before .before .before .before .before .before .before .before) 1 (c .before .before .before .before .before .before .before .before .before .before .args .tape .now) (c .before .before .before .before .before .name .given .0 .1 .0)
+unfolding rule.segment-number perhaps
+at-enum-told2 c = same-as (at-keyword-of (c .before .before .before)) (ap (λ o. perhaps o fails (λ n. add 1 n 0 0 0)) (sym (c .before .before .segment-type .ensures) ∙ ap typed (c .enum-told2 .given .1)))
+
+abbrev at-kind : (c : tie.After-kind) → Along (c .before .before .before .before .before .before .before .before .before .before) 1 (c .before .before .before .before .before .before .before .before .before .before .args .tape .now) (c .before .before .before .before .before .name .given .0 .1 .0)
+unfolding rule.segment-number perhaps
+at-kind c = same-as (at-keyword-of (c .before .before .before)) (ap (λ o. perhaps o fails (λ n. add 1 n 0 0 0)) (sym (c .before .before .segment-type .ensures) ∙ ap typed (c .kind .given .1)))
+
+returns : tie.Need-returns
+unfolding rule.segment-number perhaps
+returns c = lost-here _ (enter (segment-number-pays) (c .before .before .before .before .before .pre)) refl (known taken (c .before .before .token .ensures) (c .enum-told .given .1))
+
+returns-2 : tie.Need-returns-2
+unfolding rule.segment-number perhaps
+returns-2 c = ends-here (at-enum-told2 c) (as-lost refused)
+
+push-requires : tie.Need-push-requires
+push-requires c κs = can-push (at-kind (c .before .before))
+
+same-length : tie.Need-same-length
+same-length c = c .before .before .push .kept .0 ∙ (at-kind (c .before .before .before .before .before)) .size
+
+returns-3 : tie.Need-returns-3
+unfolding rule.segment-number perhaps
+returns-3 c = ends-here (at-kind (c .before .before .before .before .before)) (added _ _ _ _ _ (c .before .before .push .ensures) (can-push (at-kind (c .before .before .before .before .before))))
+
+pub segment-number-spec : {M : Type 1} → statement M
+segment-number-spec =
+    tie.close
+    (tie.spec
+    (λ c κs. search needs)
+    (λ c. search needs)
+    (λ c. search needs)
+    returns
+    (λ c κs. search needs)
+    (λ c κs. search needs)
+    (λ c. search needs)
+    (λ c. search needs)
+    returns-2
+    push-requires
+    same-length
+    returns-3)

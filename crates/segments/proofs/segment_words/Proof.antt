@@ -1,0 +1,152 @@
+-- The loop is the rule's: what is left is the rule of the turns that are left.
+use mathlib.Core.Path.{refl, sym, ap, _∙_}
+use Prim.Native.Nat.{ℕ, _+_, _-_}
+use native.Mathlib.Omega.{arith}
+use native.Mathlib.Numerals.{add-one}
+use mathlib.Core.List.{List}
+use lib.ListN.{length}
+use Rattle.rules.specs.Rule.{perhaps}
+use Rattle.rules.specs.Expressions.{expression}
+use Rattle.rules.specs.Commands as rule
+use Rattle.rules.proofs.Expressions.{expression-pays}
+use Rattle.rules.proofs.Commands.{flag-clause-costs, segment-words-pays, segment-word-pays}
+use Rattle.lex.specs.Contract.{read, taken}
+use Rattle.lex.specs.declared.Cursor.{Cursor}
+use Rattle.lex.proofs.Lexes.{known, given, refused, sized, opt-none}
+use Rattle.operators.specs.Answers.{operated}
+use Rattle.tape.specs.Contract.{Reads, stepped}
+use Rattle.tape.proofs.Runs.{known-run, as-bytes, as-lost}
+use Rattle.tape.proofs.Way.{Way, Loop, enter, bytes, earned-opt, spending, lost-here, ends-here, halts, not-stepped, turn, spent}
+use Rattle.rules.specs.Commands.{segment-of}
+use Rattle.segments.proofs.Flags.{flags-less}
+use Prim.Native.Nat.{_≤_}
+use mathlib.Core.Bool.{false}
+use borrow.Author.Needs.{needs}
+use Rattle.segments.proofs.segment_words.Statement.{statement}
+use Rattle.segments.proofs.segment_words.Tie as tie
+
+abbrev Inv-loop : tie.InvT-loop
+Inv-loop script tape₀ mode left at₀ so-far₀ turns₀ mark₁ mark₂ mark₃ tape at so-far turns = Loop (Reads (rule.segment-words (expression mode left)) script tape₀ at₀) script (length tape₀) (at₀ .count) (rule.segment-words-from (expression mode left) turns so-far) tape at × (so-far .flags + turns ≤ length script + 1)
+
+abbrev μ-loop : tie.MeasureT-loop
+μ-loop script tape₀ mode left at₀ so-far₀ turns₀ mark₁ mark₂ mark₃ tape at so-far turns = turns
+
+abbrev Along : tie.Start Inv-loop μ-loop → ℕ → List ℕ → Cursor → Type 0
+Along start = Way (rule.segment-words (expression (start .args .mode) (start .args .left))) (start .args .script .now) (start .args .tape .now) (start .args .c)
+
+abbrev at-turn : (c : tie.In-loop Inv-loop μ-loop) → Along (c .before .before .before .before) 0 (c .before .loop .tape) (c .before .loop .at)
+unfolding rule.segment-words rule.segment-words-from rule.segment-word perhaps
+at-turn c = turn (c .before .loop .inv .0 .way) (λ n. rule.segment-words-from (expression (c .before .before .before .before .args .mode) (c .before .before .before .before .args .left)) n (c .before .loop .so-far)) (c .before .loop .inv .0 .left) (c .loop-test .taken)
+
+abbrev at-enum-told : (c : tie.After-enum-told Inv-loop μ-loop) → Along (c .before .before .before .before .before .before .before .before .before .before) 0 (c .before .before .before .before .before .before .before .loop .tape) (c .before .before .before .before .before .before .before .loop .at)
+unfolding rule.segment-words rule.segment-words-from rule.segment-word perhaps
+at-enum-told c = bytes _ (at-turn (c .before .before .before .before .before .before)) refl (opt-none (known operated (c .before .before .sign-of-three .ensures) (c .enum-told .given .1)))
+
+abbrev at-found : (c : tie.After-found Inv-loop μ-loop) → Along (c .before .before .before .before .before .before .before .before .before .before) 1 (c .before .before .before .before .before .before .before .loop .tape) (c .found .given .0 .1 .0)
+unfolding rule.segment-words rule.segment-words-from rule.segment-word perhaps
+at-found c = earned-opt _ segment-word-pays (at-turn (c .before .before .before .before .before .before)) refl (known operated (c .before .before .sign-of-three .ensures) (c .found .given .1))
+
+abbrev at-before2 : (c : tie.After-before2 Inv-loop μ-loop) → Along (c .before .before .before .before .before .before .before .before .before .before .before .before .before .before) 1 (c .before .before .before .before .before .before .before .before .before .before .before .loop .tape) (c .before2 .given .0 .0)
+unfolding rule.segment-words rule.segment-words-from rule.segment-word perhaps
+at-before2 c = bytes _ (at-found (c .before .before .before .before)) refl (known read (c .before .before .skip .ensures) (c .before2 .given .1))
+
+abbrev at-flag : (c : tie.After-flag Inv-loop μ-loop) → Along (c .before .before .before .before .before .before .before .before .before .before .before .before .before .before .before .before .before .before .before .before .before) 0 (c .before .before .before .before .flag-clause .last .1 .0) (c .flag .given .0 .0)
+unfolding rule.segment-words rule.segment-words-from rule.segment-word perhaps
+at-flag c = spending _ (flag-clause-costs (expression-pays (c .before .before .before .before .before .before .before .before .before .before .before .before .before .before .before .before .before .before .before .before .before .args .mode) (c .before .before .before .before .before .before .before .before .before .before .before .before .before .before .before .before .before .before .before .before .before .args .left)) _) (at-before2 (c .before .before .before .before .before .before .before)) refl (known-run stepped (c .before .before .before .before .flag-clause .ensures) (c .flag .given .1)) (c .before .before .before .before .flag-clause .kept .1 .0)
+
+abbrev at-behind : (c : tie.After-behind Inv-loop μ-loop) → Along (c .before .before .before .before .before .before .before .before .before .before .before .before .before .before .before .before .before .before .before .before .before .before .before .before .before) 0 (c .before .before .before .before .before .before .before .before .flag-clause .last .1 .0) (c .behind .given .0 .0)
+unfolding rule.segment-words rule.segment-words-from rule.segment-word perhaps
+at-behind c = bytes _ (at-flag (c .before .before .before .before)) refl (known read (c .before .before .skip2 .ensures) (c .behind .given .1))
+
+loop-holds : tie.Need-loop-holds Inv-loop μ-loop
+unfolding rule.segment-words rule.segment-words-from rule.segment-word perhaps
+loop-holds c = (record { way = bytes _ (enter (segment-words-pays (expression-pays (c .before .before .args .mode) (c .before .before .args .left))) (c .before .before .pre)) refl sized; left = ap (λ n. rule.segment-words-from (expression (c .before .before .args .mode) (c .before .before .args .left)) n (segment-of false false 0)) (sym (add-one (length (c .before .before .args .script .now)))) }, omega arith)
+
+same-length : tie.Need-same-length Inv-loop μ-loop
+same-length c = (at-enum-told c) .size
+
+returns : tie.Need-returns Inv-loop μ-loop
+unfolding rule.segment-words rule.segment-words-from rule.segment-word perhaps
+returns c = ends-here (at-enum-told c) (as-bytes (given _))
+
+same-length-2 : tie.Need-same-length-2 Inv-loop μ-loop
+same-length-2 c = (at-found (c .before .before .before .before)) .size
+
+returns-2 : tie.Need-returns-2 Inv-loop μ-loop
+unfolding rule.segment-words rule.segment-words-from rule.segment-word perhaps
+returns-2 c = lost-here _ (at-found (c .before .before .before .before)) refl (known read (c .before .before .skip .ensures) (c .enum-told2 .given .1))
+
+flag-clause-requires : tie.Need-flag-clause-requires Inv-loop μ-loop
+flag-clause-requires c κs = ((at-before2 (c .before .before)) .room, omega (arith, (at-before2 (c .before .before)) .spare))
+
+same-length-3 : tie.Need-same-length-3 Inv-loop μ-loop
+same-length-3 c = c .before .before .before .before .flag-clause .kept .1 .0 ∙ (at-before2 (c .before .before .before .before .before .before .before)) .size
+
+returns-3 : tie.Need-returns-3 Inv-loop μ-loop
+unfolding rule.segment-words rule.segment-words-from rule.segment-word perhaps
+returns-3 c = halts _ (at-before2 (c .before .before .before .before .before .before .before)) refl (not-stepped (c .before .before .before .before .flag-clause .result) (c .before .match3 .keys2)) (c .before .before .before .before .flag-clause .ensures) _ (c .with-words .ensures)
+
+same-length-4 : tie.Need-same-length-4 Inv-loop μ-loop
+same-length-4 c = (at-flag (c .before .before .before .before)) .size
+
+returns-4 : tie.Need-returns-4 Inv-loop μ-loop
+unfolding rule.segment-words rule.segment-words-from rule.segment-word perhaps
+returns-4 c = lost-here _ (at-flag (c .before .before .before .before)) refl (known read (c .before .before .skip2 .ensures) (c .enum-told3 .given .1))
+
+with-word-requires : tie.Need-with-word-requires Inv-loop μ-loop
+with-word-requires c κs = omega (arith, c .before .before .before .before .before .before .before .before .before .before .before .before .before .before .before .before .before .before .before .before .before .before .before .loop .inv .1, (c .before .before .before .before .before .before .before .before .before .before .before .before .before .before .before .before .before .before .before .before .before .before .before .loop .inv .0 .way) .room .short, c .before .before .before .before .before .before .before .before .before .before .before .before .before .before .before .before .before .before .before .before .before .before .loop-test .taken)
+
+sub-turns : tie.Need-sub-turns Inv-loop μ-loop
+sub-turns c = omega (arith, c .before .before .before .before .before .before .before .before .before .before .before .before .before .before .before .before .before .before .before .before .before .before .before .loop-test .taken)
+
+loop-less : tie.Need-loop-less Inv-loop μ-loop
+loop-less c = omega (arith, c .before .before .before .before .before .before .before .before .before .before .before .before .before .before .before .before .before .before .before .before .before .before .before .loop-test .taken)
+
+loop-again : tie.Need-loop-again Inv-loop μ-loop
+unfolding rule.segment-words rule.segment-words-from rule.segment-word perhaps
+loop-again c = (record { way = (at-behind (c .before .before)); left = ap (λ n. rule.segment-words-from (expression (c .before .before .before .before .before .before .before .before .before .before .before .before .before .before .before .before .before .before .before .before .before .before .before .before .before .before .before .args .mode) (c .before .before .before .before .before .before .before .before .before .before .before .before .before .before .before .before .before .before .before .before .before .before .before .before .before .before .before .args .left)) (c .before .before .before .before .before .before .before .before .before .before .before .before .before .before .before .before .before .before .before .before .before .before .before .before .loop .turns - 1) n) (sym (c .with-word .ensures)) }, flags-less (c .before .before .before .before .before .before .before .before .before .before .before .before .before .before .before .before .before .before .before .before .before .before .before .before .loop .so-far) _ _ (c .with-word .ensures) (c .before .before .before .before .before .before .before .before .before .before .before .before .before .before .before .before .before .before .before .before .before .before .before .before .loop .inv .1) (c .before .before .before .before .before .before .before .before .before .before .before .before .before .before .before .before .before .before .before .before .before .before .before .loop-test .taken))
+
+same-length-5 : tie.Need-same-length-5 Inv-loop μ-loop
+same-length-5 c = (c .before .loop .inv .0 .way) .size
+
+returns-5 : tie.Need-returns-5 Inv-loop μ-loop
+unfolding rule.segment-words rule.segment-words-from rule.segment-word perhaps
+returns-5 c = spent (c .before .loop .inv .0 .way) (λ n. rule.segment-words-from (expression (c .before .before .before .before .args .mode) (c .before .before .before .before .args .left)) n (c .before .loop .so-far)) (c .before .loop .inv .0 .left) (c .loop-test .left) (as-lost refused)
+
+pub segment-words-spec : {M : Type 1} → statement M
+segment-words-spec =
+    tie.close
+    (tie.spec
+    Inv-loop
+    μ-loop
+    (λ c. search needs)
+    loop-holds
+    (λ c. search needs)
+    (λ c. search needs)
+    (λ c. search needs)
+    (λ c κs. search needs)
+    (λ c. search needs)
+    (λ c. search needs)
+    same-length
+    returns
+    (λ c κs. search needs)
+    (λ c. search needs)
+    (λ c. search needs)
+    same-length-2
+    returns-2
+    flag-clause-requires
+    (λ c. search needs)
+    (λ c κs. search needs)
+    same-length-3
+    returns-3
+    (λ c κs. search needs)
+    (λ c. search needs)
+    (λ c. search needs)
+    same-length-4
+    returns-4
+    with-word-requires
+    sub-turns
+    loop-less
+    loop-again
+    same-length-5
+    returns-5)

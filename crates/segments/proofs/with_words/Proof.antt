@@ -1,0 +1,22 @@
+-- By cases on the answer.
+use mathlib.Core.Path.{sym, ap}
+use Rattle.rules.specs.Commands as rule
+use Rattle.lex.proofs.Lexes.{given}
+use Rattle.tape.specs.Contract.{stepped, valued}
+use borrow.Author.Needs.{needs}
+use Rattle.segments.proofs.with_words.Statement.{statement}
+use Rattle.segments.proofs.with_words.Tie as tie
+
+returns : tie.Need-returns
+returns c = sym (ap (λ r. valued (c .before .before .before .args .words) (stepped r)) (c .before .step .given .1))
+
+pub with-words-spec : {M : Type 1} → statement M
+with-words-spec =
+    tie.close
+    (tie.spec
+    (λ c. search needs)
+    (λ c. search needs)
+    (λ c. search needs)
+    returns
+    (λ c. search needs)
+    (λ c. search needs))
