@@ -1,7 +1,7 @@
 #!/usr/bin/env python3
-"""The cases of the program exprtest, and what it must print.
+"""The expressions among the cases of the program readtest, and what it must print of them.
 
-Run it anywhere: it writes crates/exprtest/stdin and crates/exprtest/stdout.
+script_cases.py writes them, before the whole scripts.
 
 The reading below is a second one of the same documents, and no outside oracle: binary operators by their strength in one
 loop, where 000 and the Rattle code go down rung by rung, and tokens by regular expressions. Strengths, levels and records
@@ -9,7 +9,6 @@ are from 01 (rule 3, "Levels", "The tape"), bytes and numbers from 01 rules 1 an
 (parse_identifier_or_function, parse_function_arg, parse_assert).
 """
 import itertools
-import pathlib
 import random
 import re
 import sys
@@ -737,22 +736,3 @@ for _ in range(100):
     add([some(BOTH)], t, changed(t))
 for _ in range(80):
     add([some(BOTH)], "".join(some(PIECES) for _ in range(2 + CHANCE.randrange(7))))
-
-
-def main():
-    crate = pathlib.Path(__file__).resolve().parent.parent / "crates" / "exprtest"
-    given, wanted = b"", b""
-    for n, (mode, times, head, tail) in enumerate(CASES, 1):
-        given += b"%d %d %d %d\n%s%s\n" % (mode, times, len(head), len(tail), head, tail)
-        wanted += b"%d %s" % (n, answer(mode, times * head + tail).encode())
-    # a script of 65,537 bytes ends the run
-    given += b"0 65536 1 1\naa\n0 1 1 0\na\n"
-    wanted += b"%d malformed header: script too long\n" % (len(CASES) + 1)
-    assert len(given) <= 262144, "the program reads no more"
-    (crate / "stdin").write_bytes(given)
-    (crate / "stdout").write_bytes(wanted)
-    print(len(CASES), "cases,", len(given), "bytes,", len(wanted), "bytes of answers")
-
-
-if __name__ == "__main__":
-    main()
