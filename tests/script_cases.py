@@ -1,7 +1,7 @@
 #!/usr/bin/env python3
-"""The cases of the program readtest, and what it must print.
+"""The cases of the programs readtest, listing and listings, and what they must print.
 
-Run it anywhere: it writes crates/readtest/stdin and crates/readtest/stdout. The cases of expr_cases.py come first, as it
+Run it anywhere: it writes stdin and stdout of those crates. The cases of expr_cases.py come first, as it
 has them; whole scripts follow, as modes 2 (wild) and 3 (book).
 
 The reading below is a second one of the same documents, and no outside oracle. Commands are from 000 and bear its names, one
@@ -531,18 +531,34 @@ def shown(records):
     return f"sum {checksum}\n"
 
 
-def answer(mode, script):
+def reading(mode, script):
+    """The reading, or the line of a refusal."""
     r = Script(script, mode)
     try:
         r.commands()
     except Fail:
-        return f"refused 4 {r.place}\n"
+        return None, f"refused 4 {r.place}\n"
     except Deep:
-        return f"refused 5 {r.place}\n"
+        return None, f"refused 5 {r.place}\n"
     # the tape of 5n words holds them
     assert len(r.records) <= len(script)
+    return r, None
+
+
+def answer(mode, script):
+    r, refused = reading(mode, script)
+    if refused:
+        return refused
     version = f" version {r.version.start} {len(r.version.text)}" if r.version else ""
     return f"ok {len(r.records)} {r.count}{version}\n" + shown(r.records)
+
+
+def listing(mode, script):
+    """What listing and listings print."""
+    if mode > 1:
+        return "refused 1 0\n"
+    r, refused = reading(mode, script)
+    return refused or f"ok {len(r.records)} {r.count}\n" + "".join("%d %d %d %d %d\n" % tuple(x) for x in r.records)
 
 
 # ---- the cases: mode, how often the head stands, head, tail
@@ -1446,5 +1462,22 @@ def main():
     print(", ".join(f"{count} {what}" for what, count in sorted(tally.items())))
 
 
+def streams():
+    """The inputs of listing and listings, and what they must print."""
+    crates = pathlib.Path(__file__).resolve().parent.parent / "crates"
+    one = b"x += 1K;\n"
+    (crates / "listing" / "stdin").write_bytes(one)
+    (crates / "listing" / "stdout").write_text(listing(WILD, one))
+    scripts = [(mode - 2, times * head + tail) for mode, times, head, tail in CASES]
+    # every fourth of the short ones, the longest there are, and modes that are none
+    some_of = [x for x in scripts if len(x[1]) <= 300][::4] + [x for x in scripts if len(x[1]) == 65536][:3] + [(2, b"a"), (12345678901, b"")]
+    given = b"".join(b"%d %d\n%s" % (mode, len(script), script) for mode, script in some_of) + b"0 1 \na"
+    wanted = "".join(listing(mode, script) + "\n" for mode, script in some_of) + "malformed header\n"
+    (crates / "listings" / "stdin").write_bytes(given)
+    (crates / "listings" / "stdout").write_text(wanted)
+    print(len(some_of), "listings,", len(given), "bytes,", len(wanted), "bytes of answers")
+
+
 if __name__ == "__main__":
     main()
+    streams()

@@ -35,7 +35,7 @@ known {rule = rule} {s} {c} view x e = subst (λ r. Lexes rule s c (view r)) e x
 -- a rule that earns a record read a byte
 pub earned : {A : Type 0} {m : Rule A} {s : List ℕ} {c e : Cursor} {a : A} → Earns m → Lexes m s c (went a e) → c .at < e .at
 earned {s = s} {c} x y =
-    let p = subst (PaidOut s 0 (c .at) (suc (c .at))) (y .said (holds 0 [])) (x 0 (c .at) .fair s (c .at) (holds 0 []) (omega arith) (omega arith) .paid) in
+    let p = subst (PaidOut _ s 0 (c .at) (suc (c .at))) (y .said (holds 0 [])) (x 0 (c .at) .fair s (c .at) (holds 0 []) (omega arith) (omega arith) .paid) in
     omega (arith, p .few)
 
 module _ {s : List ℕ} {c : Cursor} where

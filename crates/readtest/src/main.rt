@@ -6,7 +6,8 @@ use lex::Cursor;
 use lex::bytes;
 use libc::STDOUT_FILENO;
 use rules::Mode;
-use script::Outcome;
+use rules::Report;
+use script::Answer;
 use tape::Step;
 
 // The longest script, and a tape with five words for each of its bytes.
@@ -27,7 +28,7 @@ enum Placed {
 // What is to be read, and how.
 enum Chosen {
     Expression(Mode),
-    Script(Mode),
+    Script(u64),
     Unknown,
 }
 
@@ -140,31 +141,36 @@ fn print_step(tape: &[u64], r: Step) {
     }
 }
 
-// The answer on a whole script, with the records of one that was read.
-fn print_outcome(tape: &[u64], r: Outcome) {
+// A script that was refused: 01's number, and the place.
+fn print_refused(number: u64, place: usize) {
+    print(b" refused");
+    print_number(number);
+    print_number(place as u64);
+    print(b"\n");
+}
+
+// A script that was read: so many records and commands, where the first VERSION's body stands, and the records.
+fn print_read(tape: &[u64], x: Report, n: usize) {
+    print(b" ok");
+    print_number(n as u64);
+    print_number(x.commands as u64);
+    if x.met {
+        print(b" version");
+        print_number(x.start as u64);
+        print_number(x.len as u64);
+    }
+    print(b"\n");
+    print_records(tape, n);
+}
+
+fn print_answer(tape: &[u64], r: Answer) {
     match r {
-        Outcome::Read(x, c) => {
-            print(b" ok");
-            print_number(c.count as u64);
-            print_number(x.commands as u64);
-            if x.met {
-                print(b" version");
-                print_number(x.start as u64);
-                print_number(x.len as u64);
-            }
-            print(b"\n");
-            print_records(tape, c.count);
-        }
-        Outcome::NotRead(p) => {
-            print(b" refused 4");
-            print_number(p as u64);
-            print(b"\n");
-        }
-        Outcome::TooDeep(p) => {
-            print(b" refused 5");
-            print_number(p as u64);
-            print(b"\n");
-        }
+        Answer::Read(x, n) => print_read(tape, x, n),
+        Answer::UnknownMode => print_refused(1, 0),
+        Answer::ScriptTooLong => print_refused(2, 0),
+        Answer::TapeTooShort => print_refused(3, 0),
+        Answer::NotRead(p) => print_refused(4, p),
+        Answer::TooDeep(p) => print_refused(5, p),
     }
 }
 
@@ -184,8 +190,8 @@ fn run(script: &[u8], tape: &mut [u64], chosen: Chosen) {
             print_step(tape, r);
         }
         Chosen::Script(mode) => {
-            let r = script::commands(script, tape, mode);
-            print_outcome(tape, r);
+            let r = script::read(mode, script, tape);
+            print_answer(tape, r);
         }
         Chosen::Unknown => print(b" malformed header: no such mode\n"),
     }
@@ -195,8 +201,8 @@ fn chosen_of(n: usize) -> Chosen {
     match n {
         0 => Chosen::Expression(Mode::Wild),
         1 => Chosen::Expression(Mode::Book),
-        2 => Chosen::Script(Mode::Wild),
-        3 => Chosen::Script(Mode::Book),
+        2 => Chosen::Script(0),
+        3 => Chosen::Script(1),
         _ => Chosen::Unknown,
     }
 }

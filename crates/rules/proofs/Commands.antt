@@ -22,7 +22,7 @@ use Rattle.rules.specs.declared.Heading.{Heading}
 use Rattle.rules.specs.declared.Segment.{Segment}
 use Rattle.rules.specs.declared.Braced.{Braced}
 use Rattle.rules.specs.declared.Braced.the-variants.{Sections, Memory, Phdrs}
-use Rattle.rules.proofs.Pays.{Pays, Fair, Fine, Earns, opt-over, _with-it_, _before_, _or-it_, opted-or, opted-still, either, weaker, floored, wrong, sinks, gives, sized, peeks, absent, ends, over, earns, costs, returns, repeats, perhaps-pays, passed, refused}
+use Rattle.rules.proofs.Pays.{Pays, Even, Fair, Fine, Earns, opt-over, _with-it_, _before_, _or-it_, opted-or, opted-still, either, weaker, floored, wrong, sinks, gives, sized, peeks, absent, ends, over, earns, costs, returns, repeats, perhaps-pays, passed, refused}
 use Rattle.rules.proofs.Bytes.{skip-pays, token-pays, pattern-name-pays, tag-skip-pays, tag-skip-earns, skip-tag-pays, skip-tag-skip-pays, skip-tag-skip-earns, opt-tag-pays, opt-tag-skip-pays}
 use Rattle.rules.proofs.Expressions.{keyword-pays, assert-pays, signed-pays, signed-two-pays, expression-pays}
 
@@ -258,7 +258,7 @@ pub body-pays : Earns body
 unfolding body
 body-pays f i = record { fair = λ s p h a b. go s p h a b (body-of 0 (drop p s)) refl }
   where
-    go : (s : List ℕ) (p : ℕ) (h : Held) → f ≤ h .count → h .count + i ≤ p → (o : Option ℕ) → body-of 0 (drop p s) ≡ o → Fair s f p (suc i) (bodied p h o) (h .count)
+    go : (s : List ℕ) (p : ℕ) (h : Held) → f ≤ h .count → h .count + i ≤ p → (o : Option ℕ) → body-of 0 (drop p s) ≡ o → Fair (Even h) s f p (suc i) (bodied p h o) (h .count)
     go s p h a b none e = refused f i s p (suc i) h b
     go s p h a b (some n) e = passed f i s p (suc (p + n)) (suc i) h a b (omega arith) (omega (arith, body-within 0 (drop p s) n e, length-drop p s)) (omega arith)
 

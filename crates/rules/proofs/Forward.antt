@@ -24,13 +24,13 @@ use Rattle.rules.proofs.Expressions.{Sound, levels-sound, keyword-pays,
 -- what a rule that pays leaves, and one that earns
 module _ {A : Type 0} {m : Rule A} (s : List ℕ) (p : ℕ) (h : Held) {a : A} {q : ℕ} {g : Held} (few : h .count ≤ p) (e : m .out s p h ≡ got a q g) where
   pub on : Fine m → (p ≤ q) × (q ≤ max p (length s)) × (g .count ≤ q)
-  on x = let y = subst (PaidOut s (h .count) p (p - h .count)) e (x (h .count) (p - h .count) .fair s p h (omega arith) (omega arith) .paid) in (y .on, y .inside, omega (arith, y .few))
+  on x = let y = subst (PaidOut _ s (h .count) p (p - h .count)) e (x (h .count) (p - h .count) .fair s p h (omega arith) (omega arith) .paid) in (y .on, y .inside, omega (arith, y .few))
 
   pub past : Earns m → (p < q) × (q ≤ max p (length s)) × (g .count ≤ q)
-  past x = let y = subst (PaidOut s (h .count) p (suc (p - h .count))) e (x (h .count) (p - h .count) .fair s p h (omega arith) (omega arith) .paid) in (omega (arith, y .few, y .floor), y .inside, omega (arith, y .few))
+  past x = let y = subst (PaidOut _ s (h .count) p (suc (p - h .count))) e (x (h .count) (p - h .count) .fair s p h (omega arith) (omega arith) .paid) in (omega (arith, y .few, y .floor), y .inside, omega (arith, y .few))
 
   pub room : Earns m → g .count < q
-  room x = let y = subst (PaidOut s (h .count) p (suc (p - h .count))) e (x (h .count) (p - h .count) .fair s p h (omega arith) (omega arith) .paid) in omega (arith, y .few)
+  room x = let y = subst (PaidOut _ s (h .count) p (suc (p - h .count))) e (x (h .count) (p - h .count) .fair s p h (omega arith) (omega arith) .paid) in omega (arith, y .few)
 
 -- a rule that reads a byte wherever it reads on
 pub record Ahead {A : Type 0} (m : Rule A) : Type 0 where
@@ -70,11 +70,11 @@ or-ahead {A} {m} {n} x y = record { ahead = λ s p h f e. go s p h f (m .out s p
 
 -- a byte to spare stays so
 spare : {A : Type 0} {m : Rule A} (s : List ℕ) (p : ℕ) (h : Held) {a : A} {q : ℕ} {g : Held} → h .count < p → m .out s p h ≡ got a q g → Fine m → (p ≤ q) × (g .count < q)
-spare s p h few e x = let y = subst (PaidOut s (h .count) p (p - h .count)) e (x (h .count) (p - h .count) .fair s p h (omega arith) (omega arith) .paid) in (y .on, omega (arith, y .few))
+spare s p h few e x = let y = subst (PaidOut _ s (h .count) p (p - h .count)) e (x (h .count) (p - h .count) .fair s p h (omega arith) (omega arith) .paid) in (y .on, omega (arith, y .few))
 
 -- a rule that spends what was earned does not go back
 spent : {B : Type 0} {n : Rule B} (s : List ℕ) (p : ℕ) (h : Held) {b : B} {q : ℕ} {g : Held} → h .count < p → n .out s p h ≡ got b q g → ((f i : ℕ) → Pays f (suc i) i n) → p ≤ q
-spent s p h few e x = subst (PaidOut s (h .count) p (p - suc (h .count))) e (x (h .count) (p - suc (h .count)) .fair s p h (omega arith) (omega arith) .paid) .on
+spent s p h few e x = subst (PaidOut _ s (h .count) p (p - suc (h .count))) e (x (h .count) (p - suc (h .count)) .fair s p h (omega arith) (omega arith) .paid) .on
 
 earn-ahead : {A B : Type 0} {m : Rule A} {n : A → Rule B} → Earns m → ((a : A) (f i : ℕ) → Pays f (suc i) i (n a)) → Ahead (m >>= n)
 unfolding _>>=_

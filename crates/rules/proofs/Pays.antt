@@ -1,38 +1,44 @@
 -- A RULE PAYS A BYTE FOR EACH RECORD: it never holds more records than the script has bytes, because each record it adds has a byte of its
 -- own that was read. With i read bytes to spare it leaves j to spare. Records are taken back down to a floor f at most.
-use mathlib.Core.Path.{_≡_, refl}
-use Prim.Native.Nat.{ℕ, zero, suc, _+_, _≤_, max}
+use mathlib.Core.Path.{_≡_, refl, subst, _∙_}
+use Prim.Native.Nat.{ℕ, zero, suc, _+_, _*_, _≤_, max}
 use Prim.Native.String.{String}
 use native.Mathlib.Omega.{arith}
 use borrow.Author.Tests.{eqb-false}
-use mathlib.Core.List.{List, []}
+use mathlib.Core.List.{List, [], _∷_}
 use mathlib.Core.Bool.{Bool, true, false, cond}
 use mathlib.Core.Option.{Option, none, some}
-use lib.ListN.{length, drop}
+use lib.ListN.{length, drop, length-append}
+use lib.Seq.{length-take-le}
 use lib.Dec.{leb, eqb, ltb}
 use Rattle.rules.specs.Text.{ascii, begins, run, find}
 use Rattle.rules.specs.Rule.{Held, Out, got, fail, deep, Rule, at-once, give, fails, too-deep, after, most-after, _>>=_, _>>_, if_then_else_, otherwise, most-otherwise, _or-else_, opt, is-some, perhaps, here, size, counted, repeating, repeat-till, holds, more, add, back, tag, word, starts, not-tag, eof, span, take-while, pass-while, taken-until, take-until, bytes}
 use Rattle.rules.specs.declared.Token.{Token}
 use Rattle.rules.proofs.Text.{begins-inside, run-inside, find-inside}
 
--- from the place p to the place q, where g is held
-pub record Paid (s : List ℕ) (f p j q : ℕ) (g : Held) : Type 0 where
+-- five words a record
+abbrev pub Even : Held → Type 0
+Even h = length (h .words) ≡ 5 * h .count
+
+-- from the place p to the place q, where g is held; its words are five a record if those at the entry were, which E says
+pub record Paid (E : Type 0) (s : List ℕ) (f p j q : ℕ) (g : Held) : Type 0 where
   pub on : p ≤ q
   pub inside : q ≤ max p (length s)
   pub floor : f ≤ g .count
   pub few : g .count + j ≤ q
+  pub even : E → Even g
 
-abbrev pub PaidOut : {A : Type 0} → List ℕ → (f p j : ℕ) → Out A → Type 0
-PaidOut s f p j (got a q g) = Paid s f p j q g
-PaidOut s f p j fail = Unit {0}
-PaidOut s f p j deep = Unit {0}
+abbrev pub PaidOut : {A : Type 0} → Type 0 → List ℕ → (f p j : ℕ) → Out A → Type 0
+PaidOut E s f p j (got a q g) = Paid E s f p j q g
+PaidOut E s f p j fail = Unit {0}
+PaidOut E s f p j deep = Unit {0}
 
-pub record Fair {A : Type 0} (s : List ℕ) (f p j : ℕ) (o : Out A) (n : ℕ) : Type 0 where
+pub record Fair {A : Type 0} (E : Type 0) (s : List ℕ) (f p j : ℕ) (o : Out A) (n : ℕ) : Type 0 where
   pub never : n ≤ max p (length s)
-  pub paid : PaidOut s f p j o
+  pub paid : PaidOut E s f p j o
 
 pub record Pays {A : Type 0} (f i j : ℕ) (m : Rule A) : Type 0 where
-  pub fair : (s : List ℕ) (p : ℕ) (h : Held) → f ≤ h .count → h .count + i ≤ p → Fair s f p j (m .out s p h) (m .most s p h)
+  pub fair : (s : List ℕ) (p : ℕ) (h : Held) → f ≤ h .count → h .count + i ≤ p → Fair (Even h) s f p j (m .out s p h) (m .most s p h)
 
 -- whatever is to spare stays so; one byte more is to spare
 abbrev pub Fine : {A : Type 0} → Rule A → Type 0
@@ -45,9 +51,13 @@ Earns m = (f i : ℕ) → Pays f i (suc i) m
 pub never-more : {A : Type 0} {m : Rule A} {j : ℕ} → Pays 0 0 j m → (s : List ℕ) → m .most s 0 (holds 0 []) ≤ length s
 never-more x s = let y = x .fair s 0 (holds 0 []) (omega arith) (omega arith) .never in omega arith
 
+-- and what it holds at its end is five words a record
+pub whole-records : {A : Type 0} {m : Rule A} {j : ℕ} → Pays 0 0 j m → (s : List ℕ) {a : A} {q : ℕ} {g : Held} → m .out s 0 (holds 0 []) ≡ got a q g → Even g
+whole-records {j = j} x s e = subst (PaidOut (Even (holds 0 [])) s 0 0 j) e (x .fair s 0 (holds 0 []) (omega arith) (omega arith) .paid) .even refl
+
 -- ONE RULE AFTER ANOTHER
-onto : {B : Type 0} {s : List ℕ} {f p q j : ℕ} {g : Held} → Paid s f p j q g → (k : ℕ) (o : Out B) → PaidOut s f q k o → PaidOut s f p k o
-onto x k (got b r h) y = record { on = omega arith; inside = omega arith; floor = y .floor; few = y .few }
+onto : {B E : Type 0} {s : List ℕ} {f p q j : ℕ} {g : Held} → Paid E s f p j q g → (k : ℕ) (o : Out B) → PaidOut (Even g) s f q k o → PaidOut E s f p k o
+onto x k (got b r h) y = record { on = omega arith; inside = omega arith; floor = y .floor; few = y .few; even = λ e. y .even (x .even e) }
 onto x k fail y = tt
 onto x k deep y = tt
 
@@ -64,7 +74,7 @@ module _ {A B : Type 0} {f i j k : ℕ} where
   unfolding _>>=_
   _with-it_ {m} {n} x y = record { fair = λ s p h a b. go s p (m .out s p h) (m .most s p h) (x .fair s p h a b) }
     where
-      go : (s : List ℕ) (p : ℕ) (o : Out A) (t : ℕ) → Fair s f p j o t → Fair s f p k (after o (λ a q g. n a .out s q g)) (max t (most-after o (λ a q g. n a .most s q g)))
+      go : {E : Type 0} (s : List ℕ) (p : ℕ) (o : Out A) (t : ℕ) → Fair E s f p j o t → Fair E s f p k (after o (λ a q g. n a .out s q g)) (max t (most-after o (λ a q g. n a .most s q g)))
       go s p (got a q g) t z = let v = y a .fair s q g (z .paid .floor) (z .paid .few) in record { never = omega arith; paid = onto (z .paid) k (n a .out s q g) (v .paid) }
       go s p fail t z = record { never = omega arith; paid = tt }
       go s p deep t z = record { never = omega arith; paid = tt }
@@ -78,7 +88,7 @@ module _ {A B : Type 0} {f i j k : ℕ} where
   unfolding opt _>>=_ _or-else_ give
   opted {m} {n} x y = record { fair = λ s p h a b. go s p h (m .out s p h) (m .most s p h) (x .fair s p h a b) (y none .fair s p h a b) b }
     where
-      go : (s : List ℕ) (p : ℕ) (h : Held) (o : Out A) (t : ℕ) → Fair s f p j o t → Fair s f p k (n none .out s p h) (n none .most s p h) → h .count + i ≤ p → Fair s f p k (after (out-perhaps p h o) (λ a q g. n a .out s q g)) (max (most-perhaps t h o) (most-after (out-perhaps p h o) (λ a q g. n a .most s q g)))
+      go : (s : List ℕ) (p : ℕ) (h : Held) (o : Out A) (t : ℕ) → Fair (Even h) s f p j o t → Fair (Even h) s f p k (n none .out s p h) (n none .most s p h) → h .count + i ≤ p → Fair (Even h) s f p k (after (out-perhaps p h o) (λ a q g. n a .out s q g)) (max (most-perhaps t h o) (most-after (out-perhaps p h o) (λ a q g. n a .most s q g)))
       go s p h (got a q g) t u v b =
           let w = y (some a) .fair s q g (u .paid .floor) (u .paid .few) in
           let c = u .paid in
@@ -106,8 +116,8 @@ module _ {A : Type 0} {f i j : ℕ} where
   pub weaker : {m : Rule A} → Pays f i (suc j) m → Pays f i j m
   weaker {m} x = record { fair = λ s p h a b. go s p (m .out s p h) (m .most s p h) (x .fair s p h a b) }
     where
-      go : (s : List ℕ) (p : ℕ) (o : Out A) (t : ℕ) → Fair s f p (suc j) o t → Fair s f p j o t
-      go s p (got a q g) t z = record { never = z .never; paid = record { on = z .paid .on; inside = z .paid .inside; floor = z .paid .floor; few = omega arith } }
+      go : {E : Type 0} (s : List ℕ) (p : ℕ) (o : Out A) (t : ℕ) → Fair E s f p (suc j) o t → Fair E s f p j o t
+      go s p (got a q g) t z = record { never = z .never; paid = record { on = z .paid .on; inside = z .paid .inside; floor = z .paid .floor; few = omega arith; even = z .paid .even } }
       go s p fail t z = record { never = z .never; paid = tt }
       go s p deep t z = record { never = z .never; paid = tt }
 
@@ -122,7 +132,7 @@ module _ {A : Type 0} {f i j : ℕ} where
   unfolding _or-else_
   _or-it_ {m} {n} x y = record { fair = λ s p h a b. go s p h (m .out s p h) (m .most s p h) (x .fair s p h a b) (y .fair s p h a b) }
     where
-      go : (s : List ℕ) (p : ℕ) (h : Held) (o : Out A) (t : ℕ) → Fair s f p j o t → Fair s f p j (n .out s p h) (n .most s p h) → Fair s f p j (otherwise o (n .out s p h)) (max t (most-otherwise o (n .most s p h)))
+      go : (s : List ℕ) (p : ℕ) (h : Held) (o : Out A) (t : ℕ) → Fair (Even h) s f p j o t → Fair (Even h) s f p j (n .out s p h) (n .most s p h) → Fair (Even h) s f p j (otherwise o (n .out s p h)) (max t (most-otherwise o (n .most s p h)))
       go s p h (got a q g) t z w = record { never = omega arith; paid = z .paid }
       go s p h fail t z w = record { never = omega arith; paid = w .paid }
       go s p h deep t z w = record { never = omega arith; paid = tt }
@@ -132,20 +142,20 @@ module _ {A : Type 0} {f i j : ℕ} where
   unfolding _>>=_ counted
   floored {n} x = record { fair = λ s p h a b. go s p h (n (h .count) .out s p h) (n (h .count) .most s p h) a b (x (h .count) .fair s p h (omega arith) b) }
     where
-      go : (s : List ℕ) (p : ℕ) (h : Held) (o : Out A) (t : ℕ) → f ≤ h .count → h .count + i ≤ p → Fair s (h .count) p j o t → Fair s f p j o (max (h .count) t)
-      go s p h (got a q g) t u v z = record { never = omega arith; paid = record { on = z .paid .on; inside = z .paid .inside; floor = omega arith; few = z .paid .few } }
+      go : (s : List ℕ) (p : ℕ) (h : Held) (o : Out A) (t : ℕ) → f ≤ h .count → h .count + i ≤ p → Fair (Even h) s (h .count) p j o t → Fair (Even h) s f p j o (max (h .count) t)
+      go s p h (got a q g) t u v z = record { never = omega arith; paid = record { on = z .paid .on; inside = z .paid .inside; floor = omega arith; few = z .paid .few; even = z .paid .even } }
       go s p h fail t u v z = record { never = omega arith; paid = tt }
       go s p h deep t u v z = record { never = omega arith; paid = tt }
 
 -- RULES OF ONE MOMENT: they hold what was held, and where they read on they came to a place further on
-pub passed : (f i : ℕ) {A : Type 0} {x : A} (s : List ℕ) (p q j : ℕ) (h : Held) → f ≤ h .count → h .count + i ≤ p → p ≤ q → q ≤ max p (length s) → h .count + j ≤ q → Fair s f p j (got x q h) (h .count)
-passed f i s p q j h a b c d e = record { never = omega arith; paid = record { on = c; inside = d; floor = a; few = e } }
+pub passed : (f i : ℕ) {A : Type 0} {x : A} (s : List ℕ) (p q j : ℕ) (h : Held) → f ≤ h .count → h .count + i ≤ p → p ≤ q → q ≤ max p (length s) → h .count + j ≤ q → Fair (Even h) s f p j (got x q h) (h .count)
+passed f i s p q j h a b c d e = record { never = omega arith; paid = record { on = c; inside = d; floor = a; few = e; even = λ w. w } }
 
-pub refused : (f i : ℕ) {A : Type 0} (s : List ℕ) (p j : ℕ) (h : Held) → h .count + i ≤ p → Fair {A = A} s f p j fail (h .count)
+pub refused : (f i : ℕ) {A : Type 0} (s : List ℕ) (p j : ℕ) (h : Held) → h .count + i ≤ p → Fair {A = A} (Even h) s f p j fail (h .count)
 refused f i s p j h b = record { never = omega arith; paid = tt }
 
 module _ {f i : ℕ} where
-  stays : {A : Type 0} {x : A} (s : List ℕ) (p : ℕ) (h : Held) → f ≤ h .count → h .count + i ≤ p → Fair s f p i (got x p h) (h .count)
+  stays : {A : Type 0} {x : A} (s : List ℕ) (p : ℕ) (h : Held) → f ≤ h .count → h .count + i ≤ p → Fair (Even h) s f p i (got x p h) (h .count)
   stays s p h a b = passed f i s p p i h a b (omega arith) (omega arith) b
 
   pub wrong : {A : Type 0} {j : ℕ} → Pays {A = A} f i j fails
@@ -177,7 +187,7 @@ module _ {f i : ℕ} where
   named t = record { fair = λ s p h. stays s p h }
 
   -- a test, of which one answer is a failure
-  tested : (t : Bool) (s : List ℕ) (p : ℕ) (h : Held) → f ≤ h .count → h .count + i ≤ p → Fair {A = Unit {0}} s f p i (cond t fail (got tt p h)) (h .count)
+  tested : (t : Bool) (s : List ℕ) (p : ℕ) (h : Held) → f ≤ h .count → h .count + i ≤ p → Fair {A = Unit {0}} (Even h) s f p i (cond t fail (got tt p h)) (h .count)
   tested true s p h a b = refused f i s p i h b
   tested false s p h a b = stays s p h a b
 
@@ -197,7 +207,7 @@ module _ {f i : ℕ} where
   unfolding tag
   reads w {j} k = record { fair = λ s p h a b. go s p h a b (begins w (drop p s)) refl }
     where
-      go : (s : List ℕ) (p : ℕ) (h : Held) → f ≤ h .count → h .count + i ≤ p → (t : Bool) → begins w (drop p s) ≡ t → Fair {A = Unit {0}} s f p j (cond t (got tt (p + length w) h) fail) (h .count)
+      go : (s : List ℕ) (p : ℕ) (h : Held) → f ≤ h .count → h .count + i ≤ p → (t : Bool) → begins w (drop p s) ≡ t → Fair {A = Unit {0}} (Even h) s f p j (cond t (got tt (p + length w) h) fail) (h .count)
       go s p h a b true e = passed f i s p (p + length w) j h a b (omega arith) (begins-inside w s p e) (omega arith)
       go s p h a b false e = refused f i s p j h b
 
@@ -215,7 +225,7 @@ module _ {f i : ℕ} where
   unfolding take-while
   takes t = record { fair = λ s p h a b. go s p h a b (run-inside t s p) (eqb (run t (drop p s)) 0) refl }
     where
-      go : (s : List ℕ) (p : ℕ) (h : Held) → f ≤ h .count → h .count + i ≤ p → p + run t (drop p s) ≤ max p (length s) → (z : Bool) → eqb (run t (drop p s)) 0 ≡ z → Fair {A = Token} s f p (suc i) (cond z fail (got (span p (run t (drop p s))) (p + run t (drop p s)) h)) (h .count)
+      go : (s : List ℕ) (p : ℕ) (h : Held) → f ≤ h .count → h .count + i ≤ p → p + run t (drop p s) ≤ max p (length s) → (z : Bool) → eqb (run t (drop p s)) 0 ≡ z → Fair {A = Token} (Even h) s f p (suc i) (cond z fail (got (span p (run t (drop p s))) (p + run t (drop p s)) h)) (h .count)
       go s p h a b r true e = refused f i s p (suc i) h b
       go s p h a b r false e = let n = eqb-false (run t (drop p s)) 0 e in passed f i s p (p + run t (drop p s)) (suc i) h a b (omega arith) r (omega arith)
 
@@ -223,22 +233,32 @@ module _ {f i : ℕ} where
   unfolding take-until
   takes-until least w = record { fair = λ s p h a b. go s p h a b (find w (drop p s)) refl }
     where
-      pick : (s : List ℕ) (p n : ℕ) (h : Held) → f ≤ h .count → h .count + i ≤ p → p + n ≤ max p (length s) → (z : Bool) → Fair {A = Token} s f p i (cond z (got (span p n) (p + n) h) fail) (h .count)
+      pick : (s : List ℕ) (p n : ℕ) (h : Held) → f ≤ h .count → h .count + i ≤ p → p + n ≤ max p (length s) → (z : Bool) → Fair {A = Token} (Even h) s f p i (cond z (got (span p n) (p + n) h) fail) (h .count)
       pick s p n h a b r true = passed f i s p (p + n) i h a b (omega arith) r (omega arith)
       pick s p n h a b r false = refused f i s p i h b
 
-      go : (s : List ℕ) (p : ℕ) (h : Held) → f ≤ h .count → h .count + i ≤ p → (o : Option ℕ) → find w (drop p s) ≡ o → Fair s f p i (taken-until least p h o) (h .count)
+      go : (s : List ℕ) (p : ℕ) (h : Held) → f ≤ h .count → h .count + i ≤ p → (o : Option ℕ) → find w (drop p s) ≡ o → Fair (Even h) s f p i (taken-until least p h o) (h .count)
       go s p h a b none e = refused f i s p i h b
       go s p h a b (some n) e = pick s p n h a b (let r = find-inside w s p n e in omega arith) (leb least n)
 
   -- A RECORD costs what a byte earned; records that are taken back cost nothing
   pub costs : (k a₁ a₂ a₃ a₄ : ℕ) → Pays f (suc i) i (add k a₁ a₂ a₃ a₄)
   unfolding add
-  costs k a₁ a₂ a₃ a₄ = record { fair = λ s p h a b. record { never = omega arith; paid = record { on = omega arith; inside = omega arith; floor = omega arith; few = omega arith } } }
+  costs k a₁ a₂ a₃ a₄ = record {
+    fair = λ s p h a b. record {
+      never = omega arith;
+      paid = record { on = omega arith; inside = omega arith; floor = omega arith; few = omega arith; even = λ e. length-append (h .words) (k ∷ a₁ ∷ a₂ ∷ a₃ ∷ a₄ ∷ []) ∙ (let z : length (h .words) + 5 ≡ 5 * suc (h .count) = omega (arith, e) in z) };
+    };
+  }
 
   pub returns : Pays f i i (back f)
   unfolding back
-  returns = record { fair = λ s p h a b. record { never = omega arith; paid = record { on = omega arith; inside = omega arith; floor = omega arith; few = omega arith } } }
+  returns = record {
+    fair = λ s p h a b. record {
+      never = omega arith;
+      paid = record { on = omega arith; inside = omega arith; floor = omega arith; few = omega arith; even = λ e. length-take-le (5 * f) (h .words) (omega (arith, e, a)) };
+    };
+  }
 
 -- a rule that may stand here is read over
 pub opt-over : {A : Type 0} {f i : ℕ} {m : Rule A} → Pays f i i m → Pays f i i (opt m)

@@ -1,14 +1,20 @@
-// A whole script (parse_commands): its commands up to the end, what is reported of them, and where a refusal stands.
+// THE CALL: `read` answers every script, mode number and tape. Below it a whole script (parse_commands): its commands up to the end, what is
+// reported of them, and where a refusal stands.
 ghost use mathlib.Core.Path.{_≡_};
-ghost use Prim.Native.Nat.{_+_, _*_, _<_, _≤_, _^_};
-ghost use lib.ListN.{length};
+ghost use Prim.Native.Nat.{_+_, _*_, _-_, _<_, _≤_, _^_};
+ghost use mathlib.Core.List.{_++_};
+ghost use lib.ListN.{length, take, replicate};
+ghost use Rattle.rules.specs.Text.{part-of};
 ghost use Rattle.rules.specs.Rule.{holds};
 ghost use Rattle.rules.specs.Script as rule;
 ghost use Rattle.tape.specs.Contract.{Reads};
-ghost use Rattle.script.specs.Answers.{outcome, Placed, beginning};
+ghost use Rattle.script.specs.Answers.{outcome, Placed, beginning, Settling, settled as settled-answer, stays};
+ghost use Rattle.script.specs.Call as call;
+ghost use Rattle.script.specs.Call.{said, Meets};
 use commands::command;
 use lex::Cursor;
 use lex::Read;
+use lex::bytes;
 use rules::Mode;
 use rules::Report;
 use tape::Step;
@@ -57,7 +63,7 @@ fn noted(tape: &[u64], so_far: Report, count: usize) -> Report
 }
 
 // The commands of a script, from nothing held on.
-pub fn commands(script: &[u8], tape: &mut [u64], mode: Mode) -> Outcome
+fn commands(script: &[u8], tape: &mut [u64], mode: Mode) -> Outcome
     requires { ⌜ length (now script) ≤ 65536 ⌝ }
     requires { ⌜ 5 * length (now script) ≤ length (now tape) ⌝ }
     ensures { λ r. ⌜ Reads (rule.commands mode) (now (script .entry)) (now (tape .entry)) beginning (outcome r) (now (tape .exit)) ⌝ }
@@ -95,4 +101,80 @@ pub fn commands(script: &[u8], tape: &mut [u64], mode: Mode) -> Outcome
         turns -= 1;
     }
     Outcome::NotRead(at.at)
+}
+
+// What a call answers. What each says, by 01's numbers, is in specs/Call.antt.
+pub enum Answer {
+    Read(Report, usize),
+    UnknownMode,
+    ScriptTooLong,
+    TapeTooShort,
+    NotRead(usize),
+    TooDeep(usize),
+}
+
+// How a mode that is known reads.
+fn mode_of(mode: u64) -> Mode
+    ensures { λ r. ⌜ r ≡ call.mode-of mode ⌝ }
+{
+    if mode == 0 {
+        return Mode::Wild;
+    }
+    Mode::Book
+}
+
+// The records first and every further word 0; or all words 0.
+fn settled(tape: &mut [u64], r: Outcome) -> Answer
+    requires { ⌜ Settling r (now tape) ⌝ }
+    ensures { λ a. ⌜ a ≡ settled-answer r ⌝ }
+    ensures { λ a. ⌜ now (tape .exit) ≡ take (stays r) (now (tape .entry)) ++ replicate (length (now (tape .entry)) - stays r) 0 ⌝ }
+{
+    match r {
+        Outcome::Read(x, c) => {
+            tape::zero_from(tape, 5 * c.count);
+            Answer::Read(x, c.count)
+        }
+        Outcome::NotRead(p) => {
+            tape::zero_from(tape, 0);
+            Answer::NotRead(p)
+        }
+        Outcome::TooDeep(p) => {
+            tape::zero_from(tape, 0);
+            Answer::TooDeep(p)
+        }
+    }
+}
+
+// Reads a script: any mode number, any script, any tape.
+pub fn read(mode: u64, script: &[u8], tape: &mut [u64]) -> Answer
+    ensures { λ r. ⌜ Meets mode (now (script .entry)) (now (tape .entry)) r (now (tape .exit)) ⌝ }
+{
+    if 1 < mode {
+        return Answer::UnknownMode;
+    }
+    if 65536 < script.len() {
+        return Answer::ScriptTooLong;
+    }
+    if tape.len() < 5 * script.len() {
+        return Answer::TapeTooShort;
+    }
+    let done = commands(script, tape, mode_of(mode));
+    settled(tape, done)
+}
+
+// The body of the first VERSION of a script that was read; no bytes where there is none.
+pub fn version(script: &[u8], r: Answer) -> &[u8]
+    ensures { λ b. ⌜ now b ≡ part-of (now (script .entry)) (said r .start) (said r .len) ⌝ }
+{
+    let Answer::Read(x, _) = r else {
+        return bytes::part(script, 0, 0);
+    };
+    bytes::part(script, x.start, x.len)
+}
+
+// len bytes of the script from start on, or none where they are not all inside.
+pub fn part(script: &[u8], start: usize, len: usize) -> &[u8]
+    ensures { λ r. ⌜ now r ≡ part-of (now (script .entry)) start len ⌝ }
+{
+    bytes::part(script, start, len)
 }

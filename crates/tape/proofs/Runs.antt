@@ -33,7 +33,7 @@ met {A} {rule} {s} {t} {c} {r} {t′} fine room x = record { said = x .said; kep
   where
     go : (r : Went A) → rule .out s (c .at) (holds (c .count) t) ≡ shown t′ r → CameTo s c r
     go (went a e) q =
-        let p = subst (PaidOut s (c .count) (c .at) (c .at - c .count)) q (fine (c .count) (c .at - c .count) .fair s (c .at) (holds (c .count) t) (omega arith) (omega arith) .paid) in
+        let p = subst (PaidOut _ s (c .count) (c .at) (c .at - c .count)) q (fine (c .count) (c .at - c .count) .fair s (c .at) (holds (c .count) t) (omega arith) (omega arith) .paid) in
         record { on = p .on; inside = omega arith; grown = p .floor; paid = omega arith }
     go lost q = tt
     go sunk q = tt

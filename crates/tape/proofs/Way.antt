@@ -12,7 +12,7 @@ use lib.Seq.{take-take}
 use types.Run.{OneOf, miss}
 use denote.Enum.Declared.{tagOf}
 use Rattle.rules.specs.Rule.{Rule, holds, got, _>>=_, if_then_else_, _or-else_, opt, perhaps, give, add, back, counted}
-use Rattle.rules.proofs.Pays.{Pays, Paid, PaidOut, Fine, Earns}
+use Rattle.rules.proofs.Pays.{Pays, Even, Paid, PaidOut, Fine, Earns}
 use Rattle.lex.specs.Contract.{Went, went, lost, sunk, Lexes}
 use Rattle.lex.specs.declared.Cursor.{Cursor}
 use Rattle.lex.proofs.Lexes.{earned, opt-some}
@@ -60,8 +60,8 @@ abbrev pub enter-low : {A : Type 0} {rule : Rule A} {s t : List ℕ} {c : Cursor
 enter-low {rule = rule} r h = record { rest = rule; go = λ y. y; room = r; size = refl; spare = omega arith; low = h }
 
 -- what a rule of a known price came to
-pub paid : {B : Type 0} {m : Rule B} {s t : List ℕ} {e g : Cursor} {b : B} {t₂ : List ℕ} {f i j : ℕ} → Pays f j i m → f ≤ e .count → e .count + j ≤ e .at → Runs f m s t e (went b g) t₂ → Paid s f (e .at) i (g .at) (holds (g .count) t₂)
-paid {s = s} {t} {e} {f = f} {i} x l h y = subst (PaidOut s f (e .at) i) (y .said) (x .fair s (e .at) (holds (e .count) t) l h .paid)
+pub paid : {B : Type 0} {m : Rule B} {s t : List ℕ} {e g : Cursor} {b : B} {t₂ : List ℕ} {f i j : ℕ} → Pays f j i m → f ≤ e .count → e .count + j ≤ e .at → Runs f m s t e (went b g) t₂ → Paid (Even (holds (e .count) t)) s f (e .at) i (g .at) (holds (g .count) t₂)
+paid {s = s} {t} {e} {f = f} {i} x l h y = subst (PaidOut _ s f (e .at) i) (y .said) (x .fair s (e .at) (holds (e .count) t) l h .paid)
 
 -- an answer that is no reading
 abbrev pub Unread : {A : Type 0} → Went A → Type 0

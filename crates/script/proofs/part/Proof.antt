@@ -1,0 +1,15 @@
+-- The part is that of the bytes.
+use Rattle.rules.specs.Script as rule
+use borrow.Author.Needs.{needs}
+use Rattle.script.proofs.part.Statement.{statement}
+use Rattle.script.proofs.part.Tie as tie
+
+returns : tie.Need-returns
+returns c = c .part .ensures
+
+pub part-spec : {M : Type 1} → statement M
+part-spec =
+    tie.close
+    (tie.spec
+    (λ c κs. search needs)
+    returns)
