@@ -1,8 +1,7 @@
 -- Names that the code tells apart by their numbers, which are computed from the table.
-use mathlib.Core.Path.{_≡_, refl}
+use mathlib.Core.Path.{_≡_}
 use Prim.Native.Nat.{ℕ}
 use borrow.Author.Tests.{eq-eqb, ne-eqb}
-use lib.Dec.{eqb}
 use mathlib.Core.Bool.{true, false}
 use Rattle.rules.specs.Text.{same}
 use Rattle.rules.specs.Keywords.{_is_, keywords, numbered, keyword-of}
@@ -31,7 +30,3 @@ module _ (k : ℕ) where
   pub no-star : (k ≡ 47 → ⊥) → (k is "*") ≡ false
   unfolding keyword-of numbered keywords same
   no-star n = ne-eqb k 47 n
-
-  pub dot-is : eqb k 46 ≡ (k is ".")
-  unfolding keyword-of numbered keywords same
-  dot-is = refl

@@ -1,11 +1,10 @@
 // Keywords: the number of a word in 000's order, from 1, and the types of segments among them.
 ghost use mathlib.Core.Path.{_≡_};
-ghost use mathlib.Core.List.{[]};
-ghost use Prim.Native.Nat.{_+_, _<_, _≤_};
-ghost use lib.ListN.{length, take, drop, getD};
-ghost use Rattle.rules.specs.Text.{same, part-of};
+ghost use mathlib.Core.List.{map};
+ghost use lib.ListN.{length};
+ghost use Rattle.rules.specs.Text.{part-of};
 ghost use Rattle.rules.specs.Keywords.{keywords, keyword-of, segment-type as segment-type-of};
-ghost use Rattle.keywords.specs.Words.{table, typed};
+ghost use Rattle.keywords.specs.Words.{table, is-capital, mark-of, typed};
 use lex::bytes;
 use rules::Token;
 
@@ -14,7 +13,7 @@ const WORDS: [u8; 402] =
     *b"GROUP INPUT OUTPUT_FORMAT OUTPUT_ARCH AS_NEEDED SECTIONS ENTRY VERSION PROVIDE PROVIDE_HIDDEN ASSERT MEMORY PHDRS PT_NULL PT_LOAD PT_DYNAMIC PT_INTERP PT_NOTE PT_SHLIB PT_PHDR PT_TLS PT_GNU_EH_FRAME PT_GNU_STACK PT_GNU_RELRO PT_GNU_PROPERTY PT_GNU_SFRAME SIZEOF ALIGNOF ADDR ORIGIN LENGTH LOADADDR ALIGN MIN MAX SEGMENT_START DEFINED ABSOLUTE SIZEOF_HEADERS NOLOAD READONLY DSECT COPY INFO OVERLAY . * ";
 
 // How long each of them is.
-const LENGTHS: [usize; 47] = [
+const LENGTHS: [u8; 47] = [
     5,
     5,
     13,
@@ -139,35 +138,63 @@ pub enum SegmentType {
     Unknown,
 }
 
-fn length_of(n: usize) -> usize
-    requires { ⌜ n < 47 ⌝ }
-    ensures { λ r. ⌜ r ≡ length (getD keywords n []) ⌝ }
+// Whether l begins with a capital letter, as all words do but the marks.
+fn capital(l: &[u8]) -> bool
+    ensures { λ r. ⌜ r ≡ is-capital (now (l .entry)) ⌝ }
 {
-    LENGTHS[n]
+    if l.len() == 0 {
+        return false;
+    }
+    bytes::between(b'A', l[0], b'Z')
 }
 
-fn stands_at(at: usize, len: usize, l: &[u8]) -> bool
-    requires { ⌜ at + len ≤ 402 ⌝ }
-    ensures { λ r. ⌜ r ≡ same (take len (drop at table)) (now (l .entry)) ⌝ }
+// The number of a mark, and 0 where l is none.
+fn mark(l: &[u8]) -> usize
+    ensures { λ r. ⌜ r ≡ mark-of (now (l .entry)) ⌝ }
 {
-    bytes::same(bytes::part(&WORDS, at, len), l)
+    if bytes::same(b".", l) {
+        return DOT;
+    }
+    if bytes::same(b"*", l) {
+        return STAR;
+    }
+    0
 }
 
-// The number of the word l, and 0 where it is none of them.
-pub fn keyword(l: &[u8]) -> usize
+// The number of the first word of the table that is l, and 0 where none is.
+fn looked_up(words: &[u8], lengths: &[u8], l: &[u8]) -> usize
+    requires { ⌜ now words ≡ table ⌝ }
+    requires { ⌜ now lengths ≡ map length keywords ⌝ }
     ensures { λ r. ⌜ r ≡ keyword-of (now (l .entry)) ⌝ }
 {
     let mut n = 0;
     let mut at = 0;
     while n < 47 {
-        let len = length_of(n);
-        if stands_at(at, len, l) {
+        let len = lengths[n] as usize;
+        if bytes::same(bytes::part(words, at, len), l) {
             return n + 1;
         }
         at = at + len + 1;
         n += 1;
     }
     0
+}
+
+// The same, with the tables.
+fn in_table(l: &[u8]) -> usize
+    ensures { λ r. ⌜ r ≡ keyword-of (now (l .entry)) ⌝ }
+{
+    looked_up(&WORDS, &LENGTHS, l)
+}
+
+// The number of the word l, and 0 where it is none of them.
+pub fn keyword(l: &[u8]) -> usize
+    ensures { λ r. ⌜ r ≡ keyword-of (now (l .entry)) ⌝ }
+{
+    if !capital(l) {
+        return mark(l);
+    }
+    in_table(l)
 }
 
 // The number of the word that a token is.

@@ -1,0 +1,28 @@
+-- An empty word has no first byte, which counts as 0.
+use mathlib.Core.Path.{_≡_, refl}
+use Prim.Native.Nat.{ℕ, suc}
+use native.Mathlib.Omega.{arith}
+use mathlib.Core.List.{List, [], _∷_}
+use mathlib.Core.Bool.{false}
+use borrow.Author.Needs.{needs}
+use lib.ListN.{length}
+use Rattle.keywords.specs.Words.{is-capital}
+use Rattle.keywords.proofs.capital.Statement.{statement}
+use Rattle.keywords.proofs.capital.Tie as tie
+
+-- a word without bytes has none that is a capital letter
+empty : (l : List ℕ) → length l ≡ 0 → false ≡ is-capital l
+unfolding is-capital
+empty [] e = refl
+empty (b ∷ l) e = absurd (let z : suc (length l) ≡ 0 = e in omega arith)
+
+returns : tie.Need-returns
+unfolding is-capital
+returns c = empty (c .before .before .args .l .now) (c .if1 .taken)
+
+returns-2 : tie.Need-returns-2
+unfolding is-capital
+returns-2 c = c .between .ensures
+
+pub capital-spec : {M : Type 1} → statement M
+capital-spec = tie.close (tie.spec returns (λ c. search needs) (λ c κs. search needs) returns-2)
