@@ -1,17 +1,17 @@
 -- What closes the body from the byte i on, where k braces are open, closes it from its start on, counted on: byte by byte.
 use mathlib.Core.Path.{_≡_, refl, sym, ap, _∙_}
-use Prim.Native.Nat.{ℕ, zero, suc, _+_, _-_, _≤_, _<_, max}
+use Prim.Native.Nat.{ℕ, zero, suc, _+_, _-_, _≤_, _<_}
 use native.Mathlib.Omega.{arith}
 use native.Mathlib.Numerals.{add-one}
 use mathlib.Core.List.{List}
 use mathlib.Core.Bool.{Bool, true, false, cond, _&&_}
-use mathlib.Core.Option.{Option, none, some, Option·map}
+use mathlib.Core.Option.{none, some, Option·map}
 use borrow.Author.Tests.{eq-eqb}
 use lib.Dec.{eqb}
 use lib.ListN.{length, drop, getD, drop-of-length-le}
 use lib.Seq.{drop-cons}
 use Rattle.rules.specs.Rule.{got, span}
-use Rattle.rules.specs.Commands.{open-after, body-of, bodied, body}
+use Rattle.rules.specs.Commands.{open-after, body-of, body}
 use Rattle.rules.proofs.Text.{further, further-none, further-on}
 use Rattle.lex.specs.Contract.{went, lost, Lexes}
 use Rattle.lex.specs.declared.Cursor.{Cursor}

@@ -1,5 +1,5 @@
 -- The loop of a row: what the chain says from its first cursor on is what it says from here on, with the turns that are left.
-use mathlib.Core.Path.{_≡_, refl, sym, ap, _∙_}
+use mathlib.Core.Path.{_≡_, refl, sym, _∙_}
 use Prim.Native.Nat.{ℕ, zero, suc, _+_, _-_, _*_, _≤_, _<_}
 use native.Mathlib.Omega.{arith}
 use native.Mathlib.Numerals.{sub-one}
@@ -8,8 +8,7 @@ use lib.ListN.{length, take}
 use Rattle.rules.specs.Rule.{Rule, holds, _>>=_, opt, _or-else_, _>>_, got, perhaps, give, add}
 use Rattle.rules.specs.Bytes.{multispace0}
 use Rattle.rules.specs.Expressions.{chain}
-use Rattle.rules.proofs.Pays.{Earns}
-use Rattle.lex.specs.Contract.{Went, went, lost, sunk, Lexes}
+use Rattle.lex.specs.Contract.{Went, went, lost, Lexes}
 use Rattle.lex.specs.declared.Cursor.{Cursor}
 use Rattle.lex.proofs.Lexes.{opt-some}
 use types.Run.{OneOf}
@@ -17,7 +16,7 @@ use denote.Enum.Declared.{tagOf}
 use Rattle.tape.proofs.Step.{the-type}
 use Rattle.tape.specs.Contract.{Run, Room, Pushed, Reads, stepped, Came}
 use Rattle.tape.specs.declared.Step.{Step}
-use Rattle.tape.proofs.Runs.{fewer, runs, bytes-then, call-then, call-stopped, one-more, still-there}
+use Rattle.tape.proofs.Runs.{fewer, bytes-then, call-stopped, one-more, still-there}
 
 module _ (op : Rule ℕ) (operand : Rule (Unit {0})) where
   -- with no operator here the chain ends, whatever turns are left

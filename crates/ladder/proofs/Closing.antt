@@ -1,7 +1,6 @@
 -- A closing bracket pays for the record after it, and so does a colon.
 use Prim.Native.Nat.{ℕ}
 use native.Mathlib.Omega.{arith}
-use Rattle.rules.specs.Text.{ascii}
 use Rattle.rules.specs.Rule.{_>>_, word, add}
 use Rattle.rules.specs.Bytes.{multispace0}
 use Rattle.rules.proofs.Pays.{Fine, Earns, _before_, earns, costs}

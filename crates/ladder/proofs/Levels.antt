@@ -1,8 +1,8 @@
 -- Levels and rungs, unfolded once: with no level left nothing is opened, otherwise one less is left; a rung is its row over the next.
-use mathlib.Core.Path.{_≡_, refl, sym, ap, _∙_}
+use mathlib.Core.Path.{_≡_, refl, ap}
 use Prim.Native.Nat.{ℕ, zero, suc, _+_, _-_}
 use native.Mathlib.Numerals.{sub-one}
-use mathlib.Core.List.{List, [], _∷_}
+use mathlib.Core.List.{_∷_}
 use lib.ListN.{drop}
 use Rattle.rules.specs.Rule.{Rule, too-deep}
 use Rattle.rules.specs.Expressions.{levels, ternary, unary, ladder, climb, rung}

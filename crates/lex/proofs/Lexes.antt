@@ -7,15 +7,15 @@ use native.Mathlib.Omega.{arith}
 use borrow.Author.Tests.{eq-eqb, ne-eqb, le-leb, lt-leb}
 use mathlib.Core.List.{List, []}
 use mathlib.Core.Bool.{Bool, true, false}
-use mathlib.Core.Option.{Option, none, some}
+use mathlib.Core.Option.{none, some}
 use lib.ListN.{length, drop}
 use Rattle.rules.specs.Text.{ascii, begins, run, find}
-use Rattle.rules.specs.Rule.{Rule, Held, got, fail, deep, _>>=_, if_then_else_, _or-else_, opt, give, fails, here, size, holds, tag, not-tag, starts, span, take-while, pass-while, take-until, bytes-of, bytes}
+use Rattle.rules.specs.Rule.{Rule, got, _>>=_, if_then_else_, _or-else_, opt, give, fails, here, size, holds, tag, not-tag, starts, span, take-while, pass-while, take-until, bytes-of, bytes}
 use Rattle.rules.specs.Keywords.{keyword, keyword-of}
 use Rattle.rules.specs.declared.Token.{Token}
 use Rattle.rules.proofs.Text.{begins-inside, run-inside, find-inside}
 use Rattle.rules.proofs.Pays.{Earns, PaidOut}
-use Rattle.lex.specs.Contract.{Went, went, lost, sunk, with-held, Moved, MovedTo, Past, Lexes}
+use Rattle.lex.specs.Contract.{Went, went, lost, sunk, Moved, MovedTo, Past, Lexes}
 use Rattle.lex.specs.declared.Cursor.{Cursor}
 
 -- a cursor that stands still, one that goes on from where another went, and one that is n bytes further on

@@ -1,6 +1,6 @@
 -- A token that a run took begins at the cursor and has a byte, since a run of no bytes is not taken.
 use mathlib.Core.Path.{_≡_, refl, sym, ap, _∙_}
-use Prim.Native.Nat.{ℕ, zero, suc, _+_, _≤_, _<_, max}
+use Prim.Native.Nat.{ℕ, _+_, _≤_, _<_}
 use native.Mathlib.Omega.{arith}
 use native.Mathlib.Nat.{add-zero}
 use native.Mathlib.Decide.{decLt}
@@ -9,14 +9,14 @@ use mathlib.Core.List.{List, []}
 use mathlib.Core.Bool.{Bool, true, false, cond}
 use mathlib.Core.Option.{Option, none, some}
 use lib.Dec.{eqb, leb}
-use lib.ListN.{length, take, drop, getD}
+use lib.ListN.{length, drop, getD}
 use lib.Seq.{getD-take, getD-drop}
 use Rattle.rules.specs.Text.{ascii, begins, run, find, part-of}
-use Rattle.rules.specs.Rule.{Held, Out, holds, got, fail, fails, give, _>>=_, _>>_, if_then_else_, starts, tag, span, bytes-of, bytes, take-while, taken-until, take-until}
+use Rattle.rules.specs.Rule.{Held, holds, got, fail, fails, give, _>>=_, _>>_, if_then_else_, starts, tag, span, bytes-of, bytes, take-while, taken-until, take-until}
 use Rattle.rules.specs.Bytes.{token, identifier, is-plain, is-identifier, is-initial}
 use Rattle.rules.specs.Keywords.{keyword, keyword-of}
 use Rattle.rules.specs.declared.Token.{Token}
-use Rattle.rules.proofs.Rule.{not-fail, Came, came}
+use Rattle.rules.proofs.Rule.{not-fail, came}
 use Rattle.rules.proofs.Text.{run-end, run-inside, find-inside, find-end, part-inside}
 use Rattle.lex.specs.Contract.{went, Lexes}
 use Rattle.lex.specs.declared.Cursor.{Cursor}

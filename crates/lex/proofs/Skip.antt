@@ -1,7 +1,7 @@
 -- The loop over blanks and comments: what the rule says from the first cursor on is what its loop says from here on, with turns enough left,
 -- since each turn that does not end reads a comment and so moves on.
-use mathlib.Core.Path.{_≡_, refl, sym, ap, _∙_}
-use Prim.Native.Nat.{ℕ, zero, suc, _+_, _-_, _≤_, _<_, max}
+use mathlib.Core.Path.{_≡_, refl, ap, _∙_}
+use Prim.Native.Nat.{ℕ, zero, suc, _+_, _≤_, _<_}
 use native.Mathlib.Omega.{arith}
 use mathlib.Core.List.{List, []}
 use mathlib.Core.Bool.{true, false}
@@ -11,7 +11,7 @@ use Rattle.rules.specs.Bytes.{multispace0, comment, skipping, skip-comments-and
 use Rattle.rules.proofs.Bytes.{comment-ahead}
 use Rattle.lex.specs.Contract.{Went, went, lost, sunk, Moved, MovedTo, Lexes}
 use Rattle.lex.specs.declared.Cursor.{Cursor}
-use Rattle.lex.proofs.Lexes.{still, onward, then-on, stop, chosen, passed-over, given}
+use Rattle.lex.proofs.Lexes.{still, onward, then-on, stop, passed-over, given}
 
 pub record Turned (s : List ℕ) (c₀ c : Cursor) : Type 0 where
   pub left : ℕ

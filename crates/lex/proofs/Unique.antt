@@ -1,11 +1,11 @@
 -- ONE POSSIBLE ANSWER: two answers that meet a contract of this crate at one cursor are the same, since the rule's answer is one, and the cursor
 -- keeps its count.
-use mathlib.Core.Path.{_≡_, refl, sym, ap, _∙_}
+use mathlib.Core.Path.{_≡_, refl, sym, _∙_}
 use Prim.Native.Nat.{ℕ}
 use native.Mathlib.Omega.{arith}
 use mathlib.Core.List.{List, []}
-use Rattle.rules.specs.Rule.{Rule, Held, Out, got, fail, deep, holds}
-use Rattle.lex.specs.Contract.{Went, went, lost, sunk, with-held, Moved, MovedTo, Lexes, read, taken}
+use Rattle.rules.specs.Rule.{Rule, holds}
+use Rattle.lex.specs.Contract.{Went, went, lost, sunk, with-held, MovedTo, Lexes, read, taken}
 use Rattle.lex.specs.declared.Cursor.{Cursor}
 use Rattle.lex.specs.declared.Read.{Read}
 use Rattle.lex.specs.declared.Read.the-variants as reading

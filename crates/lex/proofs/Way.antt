@@ -1,13 +1,13 @@
 -- The way from a function's entry to a point in it, the cursor e, where no record is added: which rule is left to be read from there, and that
 -- what is shown of it is what the function promises. Each step of the code is a step here, so that a proof names a step once.
-use mathlib.Core.Path.{_≡_, refl, sym, subst}
+use mathlib.Core.Path.{_≡_, sym, subst}
 use Prim.Native.Nat.{ℕ}
 use mathlib.Core.List.{List}
 use mathlib.Core.Bool.{Bool, true, false}
-use Rattle.rules.specs.Rule.{Rule, _>>=_, if_then_else_, give}
+use Rattle.rules.specs.Rule.{Rule, _>>=_, if_then_else_}
 use Rattle.lex.specs.Contract.{Went, went, lost, Lexes}
 use Rattle.lex.specs.declared.Cursor.{Cursor}
-use Rattle.lex.proofs.Lexes.{then-on, stop, chosen, passed-over, given}
+use Rattle.lex.proofs.Lexes.{then-on, stop, chosen, passed-over}
 
 pub record Trail {A : Type 0} (Goal : Went A → Type 0) (s : List ℕ) (e : Cursor) : Type 0 where
   pub rest : Rule A

@@ -1,7 +1,7 @@
 -- What a rule answers does not depend on the records held before it: it adds the same records to whatever was held. Each combinator keeps this,
 -- by cases on what its first part answers.
 use mathlib.Core.Path.{_≡_, refl, sym, ap, _∙_}
-use Prim.Native.Nat.{ℕ, zero, suc, _+_}
+use Prim.Native.Nat.{ℕ, _+_}
 use Prim.Native.String.{String}
 use native.Mathlib.Omega.{arith}
 use native.Mathlib.Nat.{add-assoc}
@@ -9,9 +9,9 @@ use mathlib.Core.List.{List, [], _∷_, _++_, append-nil, append-assoc}
 use mathlib.Core.Bool.{Bool, true, false, cond}
 use mathlib.Core.Option.{Option, none, some}
 use lib.ListN.{length, drop}
-use lib.Dec.{eqb, leb, ltb}
+use lib.Dec.{eqb, leb}
 use Rattle.rules.specs.Text.{ascii, begins, run, find}
-use Rattle.rules.specs.Rule.{Held, Out, got, fail, deep, Rule, give, fails, too-deep, after, _>>=_, _>>_, if_then_else_, otherwise, _or-else_, opt, perhaps, here, size, add, tag, not-tag, starts, span, take-while, pass-while, taken-until, take-until, bytes-of, bytes}
+use Rattle.rules.specs.Rule.{Held, Out, got, fail, deep, Rule, give, fails, too-deep, after, _>>=_, if_then_else_, otherwise, _or-else_, opt, perhaps, here, size, add, tag, not-tag, starts, span, take-while, pass-while, taken-until, take-until, bytes-of, bytes}
 use Rattle.rules.specs.declared.Token.{Token}
 
 abbrev pub nothing : Held

@@ -2,7 +2,7 @@
 use Prim.Native.Nat.{ℕ, zero, suc}
 use native.Mathlib.Omega.{arith}
 use Rattle.rules.specs.Bytes.{multispace0, comment, skipping, skip-comments-and-whitespace, tag-skip, skip-tag, skip-tag-skip, opt-tag, opt-tag-skip, token, identifier, pattern-name, segment-name}
-use mathlib.Core.Path.{_≡_, refl, sym, ap, _∙_}
+use mathlib.Core.Path.{_≡_, refl}
 use mathlib.Core.List.{List}
 use mathlib.Core.Bool.{Bool, true, false, cond, false≢true}
 use mathlib.Core.Option.{Option, none, some}
@@ -11,10 +11,9 @@ use lib.Dec.{leb}
 use lib.ListN.{drop, length}
 use Prim.Native.Nat.{_+_, _≤_, _<_}
 use Rattle.rules.specs.Text.{ascii, begins, find}
-use Rattle.rules.specs.Rule.{Held, Out, got, fail, Rule, _>>=_, _>>_, if_then_else_, give, starts, tag, span, taken-until, take-until}
+use Rattle.rules.specs.Rule.{Held, got, fail, _>>=_, _>>_, if_then_else_, give, starts, tag, span, taken-until, take-until}
 use Rattle.rules.specs.declared.Token.{Token}
-use Rattle.rules.proofs.Rule.{not-fail, Came, came}
-use Rattle.rules.proofs.Text.{begins-inside}
+use Rattle.rules.proofs.Rule.{not-fail, came}
 use Rattle.rules.proofs.Pays.{Fine, Earns, opt-over, _with-it_, _before_, either, wrong, gives, sized, peeks, named, passes, over, earns, takes, takes-until}
 
 pub multispace0-pays : Fine multispace0

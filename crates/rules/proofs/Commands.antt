@@ -1,18 +1,17 @@
 -- Commands, sections and contents pay: each record has a byte of its own, a name, a bracket or a sign, and what is taken back costs nothing.
-use mathlib.Core.Path.{_≡_, refl, ap}
-use Prim.Native.Nat.{ℕ, zero, suc, _+_, _≤_, _<_, max}
+use mathlib.Core.Path.{_≡_, refl}
+use Prim.Native.Nat.{ℕ, zero, suc, _+_, _≤_, _<_}
 use native.Mathlib.Omega.{arith}
 use mathlib.Core.List.{List, [], _∷_}
 use mathlib.Core.Bool.{Bool, true, false, cond, _&&_}
 use mathlib.Core.Option.{Option, none, some, Option·map}
 use lib.Dec.{eqb}
 use lib.ListN.{length, drop, length-drop}
-use Rattle.rules.specs.Rule.{Rule, Held, opt, tag}
-use Rattle.rules.specs.Bytes.{skip, token}
+use Rattle.rules.specs.Rule.{Rule, Held}
 use Rattle.rules.specs.Expressions.{signed}
 use Rattle.rules.specs.Assignments.{compound, plain, target, assignment-op, expand, assigned, provide}
 use Rattle.rules.specs.Contents.{sort, sorted-pattern, plain-pattern, pattern, matcher-pattern, keep, matcher, constructors, contents-provide, contents-assert, assignment, contents-command}
-use Rattle.rules.specs.Sections.{section-attribute, heading-of, fill, bracketed, alignment, start-expression, heading-part, heading-from, heading, clause, clauses-from, clauses, ending-sign, ending, endings-from, endings, section-end, section-body, section, section-assignment, section-or-assignment, section-command}
+use Rattle.rules.specs.Sections.{section-attribute, fill, bracketed, alignment, start-expression, heading-part, heading-from, heading, clause, clauses-from, clauses, ending-sign, ending, endings-from, endings, section-end, section-body, section, section-assignment, section-or-assignment, section-command}
 use Rattle.rules.specs.Commands.{entry, format, formats, output-format, open-after, body-of, bodied, body, version, bound, memory-region, segment-word, segment-number, segment-kind, flag-clause, segment-words-from, segment-words, phdr, item, braced, definition, other, paren-group, output-arch, asserted, commanded, command-with, group, command}
 use Rattle.rules.specs.declared.Report.{Report}
 use Rattle.rules.specs.Script.{noted, commands-from, nothing-read, commands}
@@ -22,7 +21,7 @@ use Rattle.rules.specs.declared.Heading.{Heading}
 use Rattle.rules.specs.declared.Segment.{Segment}
 use Rattle.rules.specs.declared.Braced.{Braced}
 use Rattle.rules.specs.declared.Braced.the-variants.{Sections, Memory, Phdrs}
-use Rattle.rules.proofs.Pays.{Pays, Even, Fair, Fine, Earns, opt-over, _with-it_, _before_, _or-it_, opted-or, opted-still, either, weaker, floored, wrong, sinks, gives, sized, peeks, absent, ends, over, earns, costs, returns, repeats, perhaps-pays, passed, refused}
+use Rattle.rules.proofs.Pays.{Pays, Even, Fair, Fine, Earns, _with-it_, _before_, _or-it_, opted-or, opted-still, either, weaker, floored, wrong, sinks, gives, sized, peeks, absent, ends, over, earns, costs, returns, repeats, perhaps-pays, passed, refused}
 use Rattle.rules.proofs.Bytes.{skip-pays, token-pays, pattern-name-pays, tag-skip-pays, tag-skip-earns, skip-tag-pays, skip-tag-skip-pays, skip-tag-skip-earns, opt-tag-pays, opt-tag-skip-pays}
 use Rattle.rules.proofs.Expressions.{keyword-pays, assert-pays, signed-pays, signed-two-pays, expression-pays}
 

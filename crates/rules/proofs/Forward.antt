@@ -1,21 +1,20 @@
 -- AN EXPRESSION MOVES THE PLACE FORWARD, since its first operand reads a byte; and MORE FUEL CHANGES NOTHING: a chain with a turn for each byte
 -- that is left answers as one with more, since each turn reads a byte.
-use mathlib.Core.Path.{_≡_, refl, sym, ap, _∙_, subst}
+use mathlib.Core.Path.{_≡_, refl, sym, _∙_, subst}
 use Prim.Native.Nat.{ℕ, zero, suc, _+_, _-_, _≤_, _<_, max}
 use native.Mathlib.Omega.{arith}
 use mathlib.Core.List.{List, [], _∷_, _++_}
 use mathlib.Core.Bool.{Bool, true, false, cond}
-use mathlib.Core.Option.{Option, none, some}
+use mathlib.Core.Option.{none, some}
 use lib.ListN.{length, drop}
 use Rattle.rules.specs.Text.{begins}
 use Rattle.rules.specs.Rule.{Held, Out, got, fail, deep, Rule, after, otherwise, give, _>>=_, _>>_, _or-else_, opt, perhaps, tag, not-tag, add}
 use Rattle.rules.specs.Bytes.{multispace0}
-use Rattle.rules.specs.Expressions.{ladder, signed, signed-unless, comparison, operator, most-of, chain, rung, climb, Deeper, identifier-or-function, grouping, number, primary, unary, ternary, levels, expression}
+use Rattle.rules.specs.Expressions.{ladder, signed, signed-unless, comparison, operator, most-of, chain, rung, climb, Deeper, identifier-or-function, grouping, number, primary, unary, ternary, expression}
 use Rattle.rules.specs.declared.Mode.{Mode}
-use Rattle.rules.specs.declared.Mode.the-variants.{Wild, Book}
 use Rattle.rules.specs.declared.Row.{Row}
 use Rattle.rules.specs.declared.Row.the-variants.{LogicalOr, LogicalAnd, Comparison, Comparisons, BitwiseOr, BitwiseXor, BitwiseAnd, Shift, Additive, Multiplicative}
-use Rattle.rules.proofs.Rule.{not-deep, deep-fail, Came, came}
+use Rattle.rules.proofs.Rule.{not-deep, deep-fail, came}
 use Rattle.rules.proofs.Pays.{Fine, Earns, Pays, PaidOut, _with-it_, _before_, either, weaker, opted-still, gives, sized, peeks, over, earns, costs}
 use Rattle.rules.proofs.Bytes.{multispace0-pays, identifier-pays}
 use Rattle.rules.proofs.Numbers.{number-pays}

@@ -1,5 +1,5 @@
 -- Numbers: what digits write, digit by digit, and that numbers pay, since a number reads a byte and adds no record.
-use mathlib.Core.Path.{_≡_, refl, sym, ap, _∙_}
+use mathlib.Core.Path.{_≡_, refl, ap}
 use mathlib.Core.List.{List, [], _∷_}
 use mathlib.Core.Bool.{Bool, true, false, cond, _&&_, false≢true}
 use native.Mathlib.Numerals.{add-one}

@@ -11,8 +11,8 @@ use mathlib.Core.Option.{Option, none, some}
 use lib.ListN.{length, drop, length-append}
 use lib.Seq.{length-take-le}
 use lib.Dec.{leb, eqb, ltb}
-use Rattle.rules.specs.Text.{ascii, begins, run, find}
-use Rattle.rules.specs.Rule.{Held, Out, got, fail, deep, Rule, at-once, give, fails, too-deep, after, most-after, _>>=_, _>>_, if_then_else_, otherwise, most-otherwise, _or-else_, opt, is-some, perhaps, here, size, counted, repeating, repeat-till, holds, more, add, back, tag, word, starts, not-tag, eof, span, take-while, pass-while, taken-until, take-until, bytes}
+use Rattle.rules.specs.Text.{begins, run, find}
+use Rattle.rules.specs.Rule.{Held, Out, got, fail, deep, Rule, give, fails, too-deep, after, most-after, _>>=_, _>>_, if_then_else_, otherwise, most-otherwise, _or-else_, opt, perhaps, here, size, counted, repeating, repeat-till, holds, add, back, tag, starts, not-tag, eof, span, take-while, pass-while, taken-until, take-until, bytes}
 use Rattle.rules.specs.declared.Token.{Token}
 use Rattle.rules.proofs.Text.{begins-inside, run-inside, find-inside}
 

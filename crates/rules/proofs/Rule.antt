@@ -1,13 +1,11 @@
 -- What each combinator answers, and the most that is held in it, in each case of what its parts answer: by rewriting with what they answer.
 use mathlib.Core.Path.{_≡_, refl}
-use Prim.Native.Nat.{ℕ, zero, suc, _+_, _≤_, max}
+use Prim.Native.Nat.{ℕ, suc, max}
 use native.Mathlib.Omega.{arith}
 use mathlib.Core.List.{List, [], _∷_}
-use mathlib.Core.Bool.{Bool, true, false, cond}
-use mathlib.Core.Option.{Option, none, some}
-use lib.ListN.{length, drop}
-use Rattle.rules.specs.Text.{begins}
-use Rattle.rules.specs.Rule.{Held, Out, got, fail, deep, Rule, after, give, fails, too-deep, _>>=_, _>>_, if_then_else_, _or-else_, opt, is-some, size, counted, repeating, repeat-till, holds, more, add, back, tag}
+use mathlib.Core.Bool.{Bool, true, false}
+use mathlib.Core.Option.{none, some}
+use Rattle.rules.specs.Rule.{Held, Out, got, fail, deep, Rule, after, give, _>>=_, if_then_else_, _or-else_, opt, repeating, holds, more, add, back}
 
 -- the three answers are told apart
 pub not-fail : {A : Type 0} {a : A} {q : ℕ} {g : Held} → fail ≡ got a q g → ⊥

@@ -1,8 +1,8 @@
 -- Assignments (01, rule 4): their signs, what a sign stands for, and PROVIDE. A value is read as it is told, at the level of its command.
 use Prim.Native.Nat.{ℕ}
-use mathlib.Core.Bool.{Bool, true, false}
+use mathlib.Core.Bool.{Bool}
 use lib.Dec.{eqb}
-use Rattle.rules.specs.Rule.{Rule, _>>=_, _>>_, if_then_else_, give, done, _or-else_, opt, add, word, not-here}
+use Rattle.rules.specs.Rule.{Rule, _>>=_, _>>_, if_then_else_, give, done, _or-else_, add, word, not-here}
 use Rattle.rules.specs.Bytes.{skip, token, word-skip, skip-word-skip, opt-word-skip}
 use Rattle.rules.specs.Expressions.{sign}
 use Rattle.rules.specs.declared.Token.{Token}

@@ -1,13 +1,10 @@
 -- Contents of a section (01, rule 6): provide, assert, matcher, assignment, CONSTRUCTORS, tried in this order.
 use Prim.Native.Nat.{ℕ, _+_}
-use mathlib.Core.Bool.{Bool, true, false}
-use mathlib.Core.Option.{Option, none, some}
-use Rattle.rules.specs.Rule.{Rule, _>>=_, _>>_, if_then_else_, give, done, fails, _or-else_, opt, perhaps, repeat-till, add, word, not-here}
+use Rattle.rules.specs.Rule.{Rule, _>>=_, _>>_, if_then_else_, _or-else_, opt, perhaps, repeat-till, add, word, not-here}
 use Rattle.rules.specs.Bytes.{skip, token, pattern-name, word-skip, skip-word, skip-word-skip, opt-word-skip}
 use Rattle.rules.specs.Keywords.{keyword, _is_}
 use Rattle.rules.specs.Expressions.{assert, sign}
 use Rattle.rules.specs.Assignments.{assignment-op, expand, assigned, provide}
-use Rattle.rules.specs.declared.Token.{Token}
 
 -- a sort word, as whether it sorts by name
 unfoldable pub sort : Rule ℕ

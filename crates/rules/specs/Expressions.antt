@@ -2,14 +2,12 @@
 use Prim.Native.Nat.{ℕ, zero, suc}
 use Prim.Native.String.{String}
 use mathlib.Core.List.{List, [], _∷_}
-use mathlib.Core.Option.{Option, none, some}
 use Rattle.rules.specs.Text.{ascii}
 use Rattle.rules.specs.Rule.{Rule, _>>=_, _>>_, if_then_else_, give, done, fails, too-deep, _or-else_, opt, is-some, perhaps, here, size, add, tag, not-tag, word, starts}
 use Rattle.rules.specs.Bytes.{multispace0, word-skip, skip-word-skip, token, identifier, segment-name}
 use Rattle.rules.specs.Keywords.{keyword, _is_}
 use Rattle.rules.specs.Numbers.{number-with-suffix}
 use Rattle.rules.specs.declared.Token.{Token}
-use Rattle.rules.specs.declared.Number.{Number}
 use Rattle.rules.specs.declared.Mode.{Mode}
 use Rattle.rules.specs.declared.Mode.the-variants.{Wild, Book}
 use Rattle.rules.specs.declared.Row.{Row}

@@ -1,10 +1,10 @@
 -- Keywords: the words that 000 matches a token or an identifier with, in its order. A word's number is its place in the table, from 1.
-use Prim.Native.Nat.{ℕ, zero, suc, _+_, _-_}
+use Prim.Native.Nat.{ℕ, suc}
 use Prim.Native.String.{String}
 use mathlib.Core.List.{List, [], _∷_, _++_, map}
-use mathlib.Core.Bool.{Bool, true, false, cond, _&&_}
+use mathlib.Core.Bool.{Bool, cond}
 use mathlib.Core.Option.{Option, none, some}
-use lib.Dec.{eqb, leb}
+use lib.Dec.{eqb}
 use Rattle.rules.specs.Text.{ascii, same}
 use Rattle.rules.specs.Rule.{Rule, _>>=_, give, bytes}
 use Rattle.rules.specs.declared.Token.{Token}

@@ -1,14 +1,11 @@
 -- Numbers (01, rule 2): hex and decimal, and the suffixes K and M.
 use Prim.Native.Nat.{ℕ, _+_, _-_, _*_, _%_, _^_}
 use mathlib.Core.List.{List, [], _∷_}
-use mathlib.Core.Bool.{Bool, true, false, cond}
+use mathlib.Core.Bool.{cond}
 use mathlib.Core.Option.{Option, none, some}
-use lib.Dec.{eqb, leb, ltb}
-use lib.ListN.{getD}
-use Rattle.rules.specs.Text.{ascii, among}
-use Rattle.rules.specs.Rule.{Rule, _>>=_, _>>_, if_then_else_, give, fails, _or-else_, opt, word, starts, take-while, bytes, at-once, got}
+use lib.Dec.{leb, ltb}
+use Rattle.rules.specs.Rule.{Rule, _>>=_, _>>_, if_then_else_, give, fails, _or-else_, opt, word, starts, take-while, bytes}
 use Rattle.rules.specs.Bytes.{between, is-digit, is-hex}
-use Rattle.rules.specs.declared.Token.{Token}
 use Rattle.rules.specs.declared.Number.{Number}
 
 -- what a digit counts, and the number that digits of a base write, after those that wrote v

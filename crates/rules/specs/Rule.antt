@@ -4,9 +4,9 @@
 use Prim.Native.Nat.{ℕ, zero, suc, _+_, _*_, max}
 use Prim.Native.String.{String}
 use mathlib.Core.List.{List, [], _∷_, _++_}
-use mathlib.Core.Bool.{Bool, true, false, cond, not}
+use mathlib.Core.Bool.{Bool, true, false, cond}
 use mathlib.Core.Option.{Option, none, some}
-use lib.ListN.{length, take, drop, getD}
+use lib.ListN.{length, take, drop}
 use lib.Dec.{eqb, leb, ltb}
 use Rattle.rules.specs.Text.{ascii, begins, run, find}
 use Rattle.rules.specs.declared.Token.{Token}

@@ -3,7 +3,7 @@ use Prim.Native.Nat.{ℕ, zero, suc, _+_, _*_, _-_}
 use mathlib.Core.List.{List, []}
 use mathlib.Core.Bool.{Bool, true, false, cond}
 use lib.Dec.{eqb}
-use lib.ListN.{length, drop, getD}
+use lib.ListN.{length, getD}
 use Rattle.rules.specs.Rule.{Held, Out, got, fail, deep, Rule, at-once, _>>=_, _>>_, if_then_else_, give, fails, opt, is-some, size, holds, eof}
 use Rattle.rules.specs.Bytes.{skip}
 use Rattle.rules.specs.Commands.{command}

@@ -1,9 +1,8 @@
 -- Sections (01, rules 5 and 6): what stands between the braces of SECTIONS.
 use Prim.Native.Nat.{ℕ, zero, suc}
 use lib.Dec.{eqb}
-use mathlib.Core.Bool.{Bool, true, false, cond}
-use mathlib.Core.Option.{Option, none, some}
-use Rattle.rules.specs.Rule.{Rule, _>>=_, _>>_, if_then_else_, give, done, fails, _or-else_, opt, is-some, perhaps, size, counted, repeat-till, add, back, word, starts}
+use mathlib.Core.Bool.{Bool, cond}
+use Rattle.rules.specs.Rule.{Rule, _>>=_, _>>_, if_then_else_, give, fails, _or-else_, opt, is-some, perhaps, size, counted, repeat-till, add, back, word, starts}
 use Rattle.rules.specs.Bytes.{skip, token, word-skip, skip-word-skip, opt-word-skip}
 use Rattle.rules.specs.Keywords.{keyword, _is_}
 use Rattle.rules.specs.Expressions.{assert, sign}

@@ -1,5 +1,5 @@
 -- Lists of bytes: how a text is written as one, and the questions that the rules ask of one.
-use Prim.Native.Nat.{ℕ, zero, suc, _+_}
+use Prim.Native.Nat.{ℕ, suc, _+_}
 use Prim.Native.Char.{code}
 use Prim.Native.String.{String}
 use mathlib.Core.List.{List, [], _∷_}

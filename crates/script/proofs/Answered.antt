@@ -1,6 +1,6 @@
 -- What the code answers is what the call says: by the tests, and then by what the rules answer.
 use mathlib.Core.Path.{_≡_, refl, sym, ap, subst, _∙_}
-use Prim.Native.Nat.{ℕ, _+_, _-_, _*_, _≤_, _<_}
+use Prim.Native.Nat.{ℕ, _-_, _*_, _≤_, _<_}
 use native.Mathlib.Omega.{arith}
 use borrow.Author.Tests.{lt-ltb, le-ltb}
 use mathlib.Core.List.{List, [], _∷_, _++_}
@@ -8,12 +8,12 @@ use types.Run.{OneOf, miss}
 use denote.Enum.Declared.{tagOf}
 use Rattle.script.proofs.Answer.{the-type}
 use lib.ListN.{length, take, replicate}
-use Rattle.rules.specs.Rule.{holds, got, fail, deep}
+use Rattle.rules.specs.Rule.{holds}
 use Rattle.rules.specs.Script.{commands, refusal-place}
 use Rattle.rules.specs.declared.Mode.{Mode}
 use Rattle.tape.specs.Contract.{Reads}
 use Rattle.script.specs.Answers.{outcome, Placed, beginning, Settling, settled, stays}
-use Rattle.script.specs.Call.{refused, reported, said, Call, ended, mode-of, call, Meets}
+use Rattle.script.specs.Call.{refused, said, ended, mode-of, call, Meets}
 use Rattle.script.specs.declared.Answer.{Answer}
 use Rattle.script.specs.declared.Answer.the-variants as answer
 use Rattle.script.specs.declared.Outcome.{Outcome}
@@ -39,7 +39,7 @@ module _ (mode : ℕ) (s t : List ℕ) where
 
       module _ (c : 5 * length s ≤ length t) {m : Mode} (e : m ≡ mode-of mode) where
         -- the tests are passed
-        passed : call mode s t ≡ ended s (length t) (refusal-place m s) (commands m .out s 0 (holds 0 []))
+        passed : call mode s t ≡ ended (length t) (refusal-place m s) (commands m .out s 0 (holds 0 []))
         unfolding call
         passed = rw (le-ltb 1 mode a, le-ltb 65536 (length s) b, le-ltb (length t) (5 * length s) c, e)
 

@@ -54,7 +54,7 @@ longer mode s t t₁ a b c d =
     all-zeros : replicate {A = ℕ} (length t₁) 0 ≡ replicate {A = ℕ} (length t) 0 ++ replicate {A = ℕ} (length t₁ - length t) 0
     all-zeros = ap (λ n. replicate {A = ℕ} n 0) (let z : length t₁ ≡ length t + (length t₁ - length t) = omega (arith, d) in z) ∙ sym (replicate-append-replicate {A = ℕ} (length t) (length t₁ - length t) 0)
 
-    go : (o : Out Report) → pays.PaidOut (pays.Even (holds 0 [])) s 0 0 0 o → (ended s (length t₁) (refusal-place (mode-of mode) s) o .says ≡ ended s (length t) (refusal-place (mode-of mode) s) o .says) × (ended s (length t₁) (refusal-place (mode-of mode) s) o .leaves ≡ ended s (length t) (refusal-place (mode-of mode) s) o .leaves ++ replicate (length t₁ - length t) 0)
+    go : (o : Out Report) → pays.PaidOut (pays.Even (holds 0 [])) s 0 0 0 o → (ended (length t₁) (refusal-place (mode-of mode) s) o .says ≡ ended (length t) (refusal-place (mode-of mode) s) o .says) × (ended (length t₁) (refusal-place (mode-of mode) s) o .leaves ≡ ended (length t) (refusal-place (mode-of mode) s) o .leaves ++ replicate (length t₁ - length t) 0)
     go (got x q h) y = (refl, ap (λ l. h .words ++ l) (zeros (5 * h .count) (omega (arith, y .few, y .inside, c))) ∙ sym (append-assoc (h .words) (replicate (length t - 5 * h .count) 0) (replicate (length t₁ - length t) 0)))
     go fail y = (refl, all-zeros)
     go deep y = (refl, all-zeros)

@@ -1,16 +1,15 @@
 -- The loop over a script's commands: what the rule says from the start on is what it says from here on with the turns that are left, and a refusal
 -- stands where the last whole command came to. Each step by what the command here answers.
 use mathlib.Core.Path.{_≡_, refl, sym, ap, subst, _∙_}
-use Prim.Native.Nat.{ℕ, zero, suc, _+_, _-_, _*_, _≤_, _<_}
+use Prim.Native.Nat.{ℕ, suc, _+_, _-_, _*_, _≤_, _<_}
 use native.Mathlib.Omega.{arith}
 use native.Mathlib.Numerals.{add-one}
 use borrow.Author.Tests.{lt-ltb, le-ltb}
 use mathlib.Core.List.{List, []}
 use mathlib.Core.Bool.{Bool, true, false, cond}
-use mathlib.Core.Option.{Option, none, some}
-use lib.Dec.{eqb, ltb}
-use lib.ListN.{length, take}
-use Rattle.rules.specs.Rule.{Rule, Held, got, holds, _>>=_, if_then_else_, opt, is-some, eof}
+use lib.Dec.{eqb}
+use lib.ListN.{length}
+use Rattle.rules.specs.Rule.{Rule, Held, holds, _>>=_, if_then_else_, eof}
 use Rattle.rules.specs.Bytes.{skip}
 use Rattle.rules.specs.Commands.{command}
 use Rattle.rules.specs.Script.{report-of, last-word, noted-in, noted, commands-from, nothing-read, commands, onward, place-from, refusal-place}
@@ -20,7 +19,7 @@ use Rattle.rules.proofs.Commands.{commands-pays}
 use Rattle.lex.specs.Contract.{Went, went, lost, sunk, Lexes}
 use Rattle.lex.specs.declared.Cursor.{Cursor}
 use Rattle.lex.proofs.Lexes.{still, sized, given, refused, opt-some, opt-none}
-use Rattle.tape.specs.Contract.{Room, Runs, Run, Reads}
+use Rattle.tape.specs.Contract.{Room, Runs, Reads}
 use Rattle.tape.proofs.Runs.{runs, as-bytes, as-lost}
 use Rattle.tape.proofs.Way.{Walk, Loop, enter, bytes, called, lost-here, halts, ends-here, turn, spent}
 use Rattle.script.specs.Answers.{beginning}

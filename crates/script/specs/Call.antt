@@ -1,8 +1,8 @@
 -- THE CALL: what it answers and what it leaves on the tape, by 01's table. The three tests come first, in their order; then the rules decide.
 use mathlib.Core.Path.{_≡_}
-use Prim.Native.Nat.{ℕ, _+_, _*_, _-_}
+use Prim.Native.Nat.{ℕ, _*_, _-_}
 use mathlib.Core.List.{List, [], _++_}
-use mathlib.Core.Bool.{Bool, true, false, cond}
+use mathlib.Core.Bool.{Bool, false, cond}
 use lib.Dec.{eqb, ltb}
 use lib.ListN.{length, replicate}
 use Rattle.rules.specs.Rule.{Out, got, fail, deep, holds}
@@ -45,10 +45,10 @@ pub record Call : Type 0 where
   pub leaves : List ℕ
 
 -- of a reading by the rules: records first and every further word 0, or all 0
-abbrev pub ended : (s : List ℕ) → (words place : ℕ) → Out Report → Call
-ended s w p (got x q h) = record { says = reported (h .count) x; leaves = h .words ++ replicate (w - 5 * h .count) 0 }
-ended s w p fail = record { says = refused 4 p; leaves = replicate w 0 }
-ended s w p deep = record { says = refused 5 p; leaves = replicate w 0 }
+abbrev pub ended : (words place : ℕ) → Out Report → Call
+ended w p (got x q h) = record { says = reported (h .count) x; leaves = h .words ++ replicate (w - 5 * h .count) 0 }
+ended w p fail = record { says = refused 4 p; leaves = replicate w 0 }
+ended w p deep = record { says = refused 5 p; leaves = replicate w 0 }
 
 abbrev pub mode-of : ℕ → Mode
 mode-of n = cond (eqb n 0) Wild Book
@@ -58,7 +58,7 @@ call mode s t =
     cond (ltb 1 mode) (record { says = refused 1 0; leaves = t })
     (cond (ltb 65536 (length s)) (record { says = refused 2 0; leaves = t })
     (cond (ltb (length t) (5 * length s)) (record { says = refused 3 0; leaves = t })
-    (ended s (length t) (refusal-place (mode-of mode) s) (commands (mode-of mode) .out s 0 (holds 0 [])))))
+    (ended (length t) (refusal-place (mode-of mode) s) (commands (mode-of mode) .out s 0 (holds 0 [])))))
 
 -- THE PROMISE: this answer, and this tape
 pub record Meets (mode : ℕ) (s t : List ℕ) (r : Answer) (t′ : List ℕ) : Type 0 where

@@ -2,7 +2,7 @@
 use Prim.Native.Nat.{ℕ, _*_, _-_}
 use Prim.Native.String.{String}
 use mathlib.Core.List.{List, [], _∷_, _++_}
-use mathlib.Core.Bool.{true, false}
+use mathlib.Core.Bool.{false}
 use lib.ListN.{length, replicate}
 use Rattle.rules.specs.Text.{ascii}
 use Rattle.rules.specs.Script.{report-of}

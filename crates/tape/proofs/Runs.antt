@@ -1,19 +1,18 @@
 -- How what the parts of a rule show makes what the whole shows, a law for each way of going on: after bytes, after a call, after a record.
 -- Each by rewriting with what the parts answer; that a byte was read for each record is the rule's own law.
 use mathlib.Core.Path.{_≡_, refl, sym, ap, subst, _∙_}
-use Prim.Native.Nat.{ℕ, suc, _+_, _*_, _-_, _≤_, _<_, max}
+use Prim.Native.Nat.{ℕ, suc, _+_, _*_, _-_, _≤_, _<_}
 use native.Mathlib.Omega.{arith}
 use native.Mathlib.Numerals.{add-one}
 use mathlib.Core.List.{List, [], _∷_, _++_}
 use mathlib.Core.Bool.{Bool, true, false}
-use mathlib.Core.Option.{Option, none, some}
 use lib.ListN.{length, take, drop, length-append}
-use lib.Seq.{sets, sets-eq, take-at, take-take, take-append-le, length-take-le}
-use Rattle.rules.specs.Rule.{Rule, Held, Out, got, fail, deep, holds, more, _>>=_, _>>_, if_then_else_, _or-else_, opt, perhaps, give, fails, too-deep, add}
-use Rattle.rules.proofs.Pays.{Fine, Paid, PaidOut}
+use lib.Seq.{sets-eq, take-at, take-take, take-append-le, length-take-le}
+use Rattle.rules.specs.Rule.{Rule, got, holds, more, _>>=_, if_then_else_, _or-else_, too-deep, add}
+use Rattle.rules.proofs.Pays.{Fine, PaidOut}
 use Rattle.lex.specs.Contract.{Went, went, lost, sunk, Lexes, Moved}
 use Rattle.lex.specs.declared.Cursor.{Cursor}
-use Rattle.tape.specs.Contract.{Runs, Run, Room, Pushed, stepped, shown, Came, CameTo, Reads}
+use Rattle.tape.specs.Contract.{Runs, Run, Room, Pushed, stepped, shown, CameTo, Reads}
 use Rattle.tape.specs.declared.Step.{Step}
 use Rattle.tape.specs.declared.Step.the-variants as step
 use Rattle.tape.proofs.Step.{the-type}

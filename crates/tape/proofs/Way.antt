@@ -2,16 +2,16 @@
 -- is what the function promises, that there is room, and that k bytes were read that have no record yet. The words of the first f records stay.
 -- Each step of the code is a step here, so that a proof names a step once.
 use mathlib.Core.Path.{_≡_, refl, sym, ap, subst, _∙_}
-use Prim.Native.Nat.{ℕ, zero, suc, _+_, _*_, _-_, _≤_, _<_, max}
+use Prim.Native.Nat.{ℕ, suc, _+_, _*_, _-_, _≤_, _<_}
 use native.Mathlib.Omega.{arith}
 use mathlib.Core.List.{List, [], _∷_}
 use mathlib.Core.Bool.{Bool, true, false}
 use mathlib.Core.Option.{Option, none, some}
-use lib.ListN.{length, take}
+use lib.ListN.{length}
 use lib.Seq.{take-take}
 use types.Run.{OneOf, miss}
 use denote.Enum.Declared.{tagOf}
-use Rattle.rules.specs.Rule.{Rule, holds, got, _>>=_, if_then_else_, _or-else_, opt, perhaps, give, add, back, counted}
+use Rattle.rules.specs.Rule.{Rule, holds, _>>=_, if_then_else_, _or-else_, opt, give, add, back, counted}
 use Rattle.rules.proofs.Pays.{Pays, Even, Paid, PaidOut, Fine, Earns}
 use Rattle.lex.specs.Contract.{Went, went, lost, sunk, Lexes}
 use Rattle.lex.specs.declared.Cursor.{Cursor}

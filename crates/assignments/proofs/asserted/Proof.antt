@@ -3,7 +3,6 @@ use mathlib.Core.Path.{refl, _∙_}
 use Prim.Native.Nat.{ℕ}
 use mathlib.Core.List.{List}
 use Rattle.rules.specs.Expressions.{expression, assert}
-use Rattle.rules.specs.Assignments as rule
 use Rattle.rules.proofs.Expressions.{expression-pays, assert-message-pays, assert-pays}
 use Rattle.lex.specs.Contract.{read, taken}
 use Rattle.lex.specs.declared.Cursor.{Cursor}

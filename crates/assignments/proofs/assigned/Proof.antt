@@ -7,7 +7,6 @@ use Rattle.lex.specs.Contract.{taken}
 use Rattle.lex.specs.declared.Cursor.{Cursor}
 use Rattle.tape.proofs.Runs.{added}
 use Rattle.tape.proofs.Way.{Short, enter-short, can-push, ends-here, where-so, where-not}
-use borrow.Author.Needs.{needs}
 use Rattle.assignments.proofs.assigned.Statement.{statement}
 use Rattle.assignments.proofs.assigned.Tie as tie
 

@@ -5,7 +5,7 @@ use lib.ListN.{length}
 use Rattle.rules.specs.Assignments.{assignment-op as assignment-op-rule, target}
 use Rattle.rules.proofs.Pays.{weaker}
 use Rattle.rules.proofs.Commands.{compound-pays, assignment-op-pays}
-use Rattle.lex.proofs.Lexes.{known, stop, first, given, earned}
+use Rattle.lex.proofs.Lexes.{known, stop, given, earned}
 use Rattle.operators.specs.Answers.{operated}
 use Rattle.tape.proofs.Runs.{met, bytes-then, first-run, second-run, as-read, as-bytes, chosen-then, other-then, added-then, space}
 use Rattle.assignments.proofs.assignment_op.Statement.{statement}

@@ -18,7 +18,6 @@ mod Segment
 mod Ternary
 mod Unary
 use borrow.Author.Needs.{needs}
-use native.Mathlib.Omega.{arith}
 use Rattle.ladder.proofs.+absolute+align+asserted+atom+branches+chain+extreme+function+grouping+ident+inner+operand+primary+rung+segment+ternary+unary.Proof.Common.{μ-absolute, μ-align, μ-asserted, μ-atom, μ-branches, μ-chain, μ-extreme, μ-function, μ-grouping, μ-ident, μ-inner, μ-operand, μ-primary, μ-rung, μ-segment, μ-ternary, μ-unary, absolute-at, align-at, asserted-at, atom-at, branches-at, chain-at, extreme-at, function-at, grouping-at, ident-at, inner-at, operand-at, primary-at, rung-at, segment-at, ternary-at, unary-at}
 use Rattle.ladder.proofs.absolute.Reads as absolute
 use Rattle.ladder.proofs.+absolute+align+asserted+atom+branches+chain+extreme+function+grouping+ident+inner+operand+primary+rung+segment+ternary+unary.Lts-absolute as absolute-lts

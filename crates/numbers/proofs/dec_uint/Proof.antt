@@ -1,13 +1,11 @@
 -- A 0 stands alone; other digits are a run, and what they write fits or does not.
 use borrow.Author.Needs.{needs}
 use borrow.Author.Tests.{lt-ltb, le-ltb}
-use mathlib.Core.Bool.{not}
 use Rattle.rules.specs.Numbers.{dec-uint}
 use Rattle.rules.specs.Bytes.{is-digit}
 use Rattle.lex.specs.Contract.{read, taken}
 use Rattle.lex.proofs.Lexes.{known, then-on, stop, chosen, passed-over, given, given-as, refused, named, asked}
 use Rattle.numbers.proofs.Fitting.{fitting, passing}
-use Rattle.numbers.proofs.Fitting.{fits}
 use Rattle.numbers.proofs.dec_uint.Statement.{statement}
 use Rattle.numbers.proofs.dec_uint.Tie as tie
 

@@ -10,7 +10,6 @@ use Rattle.rules.proofs.Numbers.{hex-fits}
 use Rattle.lex.specs.Contract.{taken}
 use Rattle.lex.proofs.Lexes.{known, then-on, stop, chosen, passed-over, given, given-as, refused, named}
 use Rattle.numbers.proofs.Fitting.{fitting, passing}
-use Rattle.numbers.proofs.Fitting.{fits}
 use Rattle.numbers.proofs.hex_uint.Statement.{statement}
 use Rattle.numbers.proofs.hex_uint.Tie as tie
 

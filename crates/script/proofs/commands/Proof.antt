@@ -1,7 +1,6 @@
 -- The loop is the rule's, and so is the place of a refusal: see Whole.
 use mathlib.Core.Path.{_∙_}
 use native.Mathlib.Omega.{arith}
-use Rattle.rules.specs.Script as rule
 use Rattle.lex.specs.Contract.{read, taken}
 use Rattle.lex.proofs.Lexes.{known, given}
 use Rattle.tape.specs.Contract.{stepped}

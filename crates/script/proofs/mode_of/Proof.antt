@@ -1,8 +1,6 @@
 -- By the number.
 use borrow.Author.Tests.{ne-eqb}
-use Rattle.rules.specs.Script as rule
 use Rattle.lex.specs.Contract.{taken}
-use borrow.Author.Needs.{needs}
 use Rattle.script.proofs.mode_of.Statement.{statement}
 use Rattle.script.proofs.mode_of.Tie as tie
 

@@ -1,5 +1,4 @@
 -- The part is that of the bytes.
-use Rattle.rules.specs.Script as rule
 use borrow.Author.Needs.{needs}
 use Rattle.script.proofs.part.Statement.{statement}
 use Rattle.script.proofs.part.Tie as tie

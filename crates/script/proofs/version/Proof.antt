@@ -1,6 +1,5 @@
 -- By the answer.
 use mathlib.Core.Path.{sym, ap, _∙_}
-use Rattle.rules.specs.Script as rule
 use Rattle.lex.proofs.Lexes.{given}
 use Rattle.script.proofs.Answered.{bodiless}
 use Rattle.script.specs.Call.{said}

@@ -3,7 +3,6 @@ use borrow.Author.Tests.{ne-eqb}
 use Rattle.rules.specs.Text.{same}
 use Rattle.rules.specs.Keywords.{keyword-of, numbered, keywords}
 use Rattle.rules.specs.Sections as rule
-use borrow.Author.Needs.{needs}
 use Rattle.sections.proofs.attribute.Statement.{statement}
 use Rattle.sections.proofs.attribute.Tie as tie
 

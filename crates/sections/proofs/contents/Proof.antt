@@ -8,7 +8,6 @@ use lib.ListN.{length}
 use Rattle.rules.specs.Rule.{if_then_else_, repeating, repeat-till, word}
 use Rattle.rules.specs.Expressions.{expression}
 use Rattle.rules.specs.Contents.{contents-command}
-use Rattle.rules.specs.Sections as rule
 use Rattle.rules.proofs.Pays.{repeats, over}
 use Rattle.rules.proofs.Expressions.{expression-pays}
 use Rattle.rules.proofs.Commands.{contents-command-pays}

@@ -1,7 +1,6 @@
 -- By cases on the two words.
 use Rattle.rules.specs.Commands as rule
 use Rattle.lex.specs.Contract.{taken}
-use borrow.Author.Needs.{needs}
 use Rattle.segments.proofs.headers.Statement.{statement}
 use Rattle.segments.proofs.headers.Tie as tie
 

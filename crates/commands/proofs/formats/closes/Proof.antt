@@ -1,8 +1,6 @@
 -- By the braces that are open.
 use borrow.Author.Tests.{ne-eqb}
-use Rattle.rules.specs.Commands as rule
 use Rattle.lex.specs.Contract.{taken}
-use borrow.Author.Needs.{needs}
 use Rattle.commands.proofs.formats.closes.Statement.{statement}
 use Rattle.commands.proofs.formats.closes.Tie as tie
 

@@ -5,7 +5,7 @@ use borrow.Author.Needs.{needs}
 use Rattle.lex.specs.Contract.{taken}
 use Rattle.lex.proofs.Name.{within, first-byte}
 use Rattle.rules.specs.Bytes.{is-identifier, identifier, is-initial}
-use Rattle.lex.proofs.Lexes.{known, then-on, stop, chosen, passed-over, first, given, refused, named}
+use Rattle.lex.proofs.Lexes.{known, then-on, stop, chosen, passed-over, given, refused, named}
 use Rattle.lex.proofs.Cursor.identifier.Statement.{statement}
 use Rattle.lex.proofs.Cursor.identifier.Tie as tie
 

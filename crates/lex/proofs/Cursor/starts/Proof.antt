@@ -2,7 +2,6 @@
 use mathlib.Core.Path.{ap, _∙_}
 use borrow.Author.Needs.{needs}
 use Rattle.rules.specs.Text.{begins as begins-with}
-use Rattle.lex.proofs.Lexes.{asked}
 use Rattle.lex.proofs.Cursor.starts.Statement.{statement}
 use Rattle.lex.proofs.Cursor.starts.Tie as tie
 

@@ -2,7 +2,6 @@
 use mathlib.Core.Path.{sym, ap, _∙_}
 use native.Mathlib.Omega.{arith}
 use borrow.Author.Needs.{needs}
-use mathlib.Core.Bool.{not}
 use Rattle.rules.specs.Text.{find as find-in}
 use Rattle.rules.proofs.Text.{find-inside}
 use Rattle.lex.specs.Class.{found}

@@ -7,8 +7,6 @@ use lib.ListN.{length, drop}
 use Rattle.rules.specs.Text.{among as one-of}
 use Rattle.rules.proofs.Text.{among-end, among-here, among-on}
 use Rattle.lex.specs.Contract.{taken}
-use Rattle.lex.proofs.Name.{whole}
-use Rattle.lex.proofs.Lexes.{asked}
 use Rattle.lex.proofs.bytes.among.Statement.{statement}
 use Rattle.lex.proofs.bytes.among.Tie as tie
 

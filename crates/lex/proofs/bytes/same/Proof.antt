@@ -1,7 +1,6 @@
 -- Two lists of one length are the same where one begins with the other.
 use mathlib.Core.Path.{sym, _∙_}
 use borrow.Author.Needs.{needs}
-use lib.ListN.{length}
 use Rattle.rules.proofs.Text.{same-long, same-other}
 use Rattle.lex.specs.Contract.{taken}
 use Rattle.lex.proofs.bytes.same.Statement.{statement}
