@@ -11,12 +11,8 @@ use Rattle.rules.specs.Expressions.{chain}
 use Rattle.lex.specs.Contract.{Went, went, lost, Lexes}
 use Rattle.lex.specs.declared.Cursor.{Cursor}
 use Rattle.lex.proofs.Lexes.{opt-some}
-use types.Run.{OneOf}
-use denote.Enum.Declared.{tagOf}
-use Rattle.tape.proofs.Step.{the-type}
 use Rattle.tape.specs.Contract.{Run, Room, Pushed, Reads, stepped, Came}
-use Rattle.tape.specs.declared.Step.{Step}
-use Rattle.tape.proofs.Runs.{fewer, bytes-then, call-stopped, one-more, still-there}
+use Rattle.tape.proofs.Runs.{fewer, bytes-then, one-more, still-there}
 
 module _ (op : Rule ℕ) (operand : Rule (Unit {0})) where
   -- with no operator here the chain ends, whatever turns are left
@@ -71,8 +67,8 @@ module _ (op : Rule ℕ) (operand : Rule (Unit {0})) (s : List ℕ) where
 
     module _ (h : 0 < n) {kind : ℕ} {d e : Cursor} (y : Lexes op s c (went kind d)) (b : Lexes multispace0 s d (went tt e)) where
       -- an operand that was not read
-      pub stopped : (r : Step) {t₁ : List ℕ} → Reads operand s t e (stepped r) t₁ → OneOf (1 ∷ 2 ∷ []) (tagOf the-type r) → Run (chain op operand n₀) s t₀ c₀ (stepped r) t₁
-      stopped r {t₁} z w = ends (turn op operand s c t n h (λ m. found op operand m y (bytes-then _ b (call-stopped _ r z w))))
+      pub stopped : {r : Went (Unit {0})} {t₁ : List ℕ} → ((k : Unit {0} → Rule (Unit {0})) → Run (operand >>= k) s t e r t₁) → Run (chain op operand n₀) s t₀ c₀ r t₁
+      stopped z = ends (turn op operand s c t n h (λ m. found op operand m y (bytes-then _ b (z _))))
 
       -- one that was, with its operator's record: the chain goes on
       module _ {f g k : Cursor} {t₁ t₂ : List ℕ} (z : Reads operand s t e (went tt f) t₁) (l₁ : length t₁ ≡ length t) (p : Pushed t₁ f (kind ∷ 0 ∷ 0 ∷ 0 ∷ 0 ∷ []) t₂ g) (l₂ : length t₂ ≡ length t₁) (q : Lexes multispace0 s g (went tt k)) (strict : c .at < d .at) where

@@ -231,7 +231,7 @@ fn primary(script: &[u8], tape: &mut [u64], c: Cursor, mode: Mode, left: usize) 
     match group {
         Step::Got(e) => Step::Got(e),
         Step::Fail => atom(script, tape, d, mode, left),
-        Step::Deep => Step::Deep,
+        Step::Deep => Step::Deep, // is no failed try
     }
 }
 
@@ -274,10 +274,17 @@ fn chain(
             return Step::Got(at);
         };
         let value = rung(script, tape, d.skip_blanks(script), mode, left, i + 1);
-        let Step::Got(e) = value else {
-            return value;
-        };
-        at = tape::push(tape, e, kind, 0, 0, 0, 0).skip_blanks(script);
+        match value {
+            Step::Got(e) => {
+                at = tape::push(tape, e, kind, 0, 0, 0, 0).skip_blanks(script);
+            }
+            Step::Fail => {
+                return Step::Fail;
+            }
+            Step::Deep => {
+                return Step::Deep;
+            }
+        }
         turns -= 1;
     }
     Step::Got(at)
@@ -294,10 +301,11 @@ fn rung(script: &[u8], tape: &mut [u64], c: Cursor, mode: Mode, left: usize, i: 
     }
     let row = operators::row_at(mode, i);
     let first = rung(script, tape, c, mode, left, i + 1);
-    let Step::Got(d) = first else {
-        return first;
-    };
-    chain(script, tape, d.skip_blanks(script), mode, left, i, row)
+    match first {
+        Step::Got(d) => chain(script, tape, d.skip_blanks(script), mode, left, i, row),
+        Step::Fail => Step::Fail,
+        Step::Deep => Step::Deep,
+    }
 }
 
 // What follows `?`.

@@ -8,7 +8,7 @@ use Rattle.rules.specs.Expressions.{levels, ladder as rows, operator as operato
 use Rattle.rules.proofs.Expressions.{levels-sound, operator-pays, chain-pays, climb-pays, unary-pays}
 use Rattle.lex.proofs.Lexes.{known, earned}
 use Rattle.tape.specs.Contract.{stepped}
-use Rattle.tape.proofs.Runs.{met, known-read}
+use Rattle.tape.proofs.Runs.{met, known-read, call-lost, call-sunk}
 use Rattle.operators.specs.Answers.{operated}
 use Rattle.ladder.proofs.Chained.{Chained, begun, spent, ended, stopped, on}
 use Rattle.ladder.proofs.+absolute+align+asserted+atom+branches+chain+extreme+function+grouping+ident+inner+operand+primary+rung+segment+ternary+unary.Proof.Common.{chain-at, rung-below}
@@ -56,20 +56,26 @@ module _ (t : ℕ) where
       omega (arith, start .pre, loop .inv .room, (known operated (operator .ensures) (c .before .before .before .found .given .1)) .moved, c .skip-blanks .ensures .moved)
 
   pub same-length-2 : lts.Need-same-length-2 (callees t) (chain-at t) chain.Post Inv-loop μ-loop
-  same-length-2 c =
-      let loop = c .before .before .before .before .before .before .before .before .before .before .before .loop in
-      c .before .before .before .rung .kept .1 .0 ∙ loop .inv .size
+  same-length-2 c = c .before .before .before .before .rung .kept .1 .0 ∙ c .before .before .before .before .before .before .before .before .before .before .before .before .loop .inv .size
 
   pub returns-2 : lts.Need-returns-2 (callees t) (chain-at t) chain.Post Inv-loop μ-loop
   returns-2 c =
-      let start = c .before .before .before .before .before .before .before .before .before .before .before .before .before .before .before in
-      let loop = c .before .before .before .before .before .before .before .before .before .before .before .loop in
-      let loop-test = c .before .before .before .before .before .before .before .before .before .before .loop-test in
-      let operator = c .before .before .before .before .before .before .before .before .before .operator in
-      let found = c .before .before .before .before .before .before .before .found in
-      let skip-blanks = c .before .before .before .before .skip-blanks in
-      let rung = c .before .before .before .rung in
-      met (chain-pays (operator-pays (start .args .row)) (climb-pays (drop (start .args .i + 1) (rows (start .args .mode))) (unary-pays (levels-sound (start .args .mode) (start .args .left)))) _) (start .pre .1 .0) (stopped (operator-of (start .args .row)) (rule.climb (drop (start .args .i + 1) (rows (start .args .mode))) (rule.unary (levels (start .args .mode) (start .args .left)))) (start .args .script .now) (loop .inv) (loop-test .taken) (known operated (operator .ensures) (found .given .1)) (skip-blanks .ensures) (rung .result) (rung .ensures) (c .match2 .keys2))
+      let start = c .before .before .before .before .before .before .before .before .before .before .before .before .before .before .before .before in
+      let loop-test = c .before .before .before .before .before .before .before .before .before .before .before .loop-test in
+      let operator = c .before .before .before .before .before .before .before .before .before .before .operator in
+      let rung = c .before .before .before .before .rung in
+      met (chain-pays (operator-pays (start .args .row)) (climb-pays (drop (start .args .i + 1) (rows (start .args .mode))) (unary-pays (levels-sound (start .args .mode) (start .args .left)))) _) (start .pre .1 .0) (stopped (operator-of (start .args .row)) (rule.climb (drop (start .args .i + 1) (rows (start .args .mode))) (rule.unary (levels (start .args .mode) (start .args .left)))) (start .args .script .now) (c .before .before .before .before .before .before .before .before .before .before .before .before .loop .inv) (loop-test .taken) (known operated (operator .ensures) (c .before .before .before .before .before .before .before .before .found .given .1)) (c .before .before .before .before .before .skip-blanks .ensures) (λ k. call-lost k (known-read stepped (rung .ensures) (c .enum-told2 .given .1))))
+
+  pub same-length-3 : lts.Need-same-length-3 (callees t) (chain-at t) chain.Post Inv-loop μ-loop
+  same-length-3 c = c .before .before .before .before .rung .kept .1 .0 ∙ c .before .before .before .before .before .before .before .before .before .before .before .before .loop .inv .size
+
+  pub returns-3 : lts.Need-returns-3 (callees t) (chain-at t) chain.Post Inv-loop μ-loop
+  returns-3 c =
+      let start = c .before .before .before .before .before .before .before .before .before .before .before .before .before .before .before .before in
+      let loop-test = c .before .before .before .before .before .before .before .before .before .before .before .loop-test in
+      let operator = c .before .before .before .before .before .before .before .before .before .before .operator in
+      let rung = c .before .before .before .before .rung in
+      met (chain-pays (operator-pays (start .args .row)) (climb-pays (drop (start .args .i + 1) (rows (start .args .mode))) (unary-pays (levels-sound (start .args .mode) (start .args .left)))) _) (start .pre .1 .0) (stopped (operator-of (start .args .row)) (rule.climb (drop (start .args .i + 1) (rows (start .args .mode))) (rule.unary (levels (start .args .mode) (start .args .left)))) (start .args .script .now) (c .before .before .before .before .before .before .before .before .before .before .before .before .loop .inv) (loop-test .taken) (known operated (operator .ensures) (c .before .before .before .before .before .before .before .before .found .given .1)) (c .before .before .before .before .before .skip-blanks .ensures) (λ k. call-sunk k (known-read stepped (rung .ensures) (c .enum-told3 .given .1))))
 
   pub push-requires : lts.Need-push-requires (callees t) (chain-at t) chain.Post Inv-loop μ-loop
   push-requires c κs =
@@ -103,10 +109,10 @@ module _ (t : ℕ) where
       let push = c .before .before .before .push in
       on (operator-of (start .args .row)) (rule.climb (drop (start .args .i + 1) (rows (start .args .mode))) (rule.unary (levels (start .args .mode) (start .args .left)))) (start .args .script .now) (loop .inv) (loop-test .taken) (known operated (operator .ensures) (found .given .1)) (skip-blanks .ensures) (known-read stepped (rung .ensures) (value .given .1)) (rung .kept .1 .0) (push .ensures) (push .kept .0) (c .skip-blanks2 .ensures) (strict (c .before .before .before .before .before .before .before .before .before .before .before .before .before .before))
 
-  pub same-length-3 : lts.Need-same-length-3 (callees t) (chain-at t) chain.Post Inv-loop μ-loop
-  same-length-3 c = c .before .loop .inv .size
+  pub same-length-4 : lts.Need-same-length-4 (callees t) (chain-at t) chain.Post Inv-loop μ-loop
+  same-length-4 c = c .before .loop .inv .size
 
-  pub returns-3 : lts.Need-returns-3 (callees t) (chain-at t) chain.Post Inv-loop μ-loop
-  returns-3 c =
+  pub returns-4 : lts.Need-returns-4 (callees t) (chain-at t) chain.Post Inv-loop μ-loop
+  returns-4 c =
       let start = c .before .before .before .before .before in
       met (chain-pays (operator-pays (start .args .row)) (climb-pays (drop (start .args .i + 1) (rows (start .args .mode))) (unary-pays (levels-sound (start .args .mode) (start .args .left)))) _) (start .pre .1 .0) (spent (operator-of (start .args .row)) (rule.climb (drop (start .args .i + 1) (rows (start .args .mode))) (rule.unary (levels (start .args .mode) (start .args .left)))) (start .args .script .now) (c .before .loop .inv) (c .loop-test .left))
