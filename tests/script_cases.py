@@ -2,7 +2,8 @@
 """The cases of the programs readtest, listing and listings, and what they must print.
 
 Run it anywhere: it writes stdin and stdout of those crates. The cases of expr_cases.py come first, as it
-has them; whole scripts follow, as modes 2 (wild) and 3 (book).
+has them; whole scripts follow, as modes 2 (wild) and 3 (book). The input of listings is chosen by rust/choose.py; here its
+answers are written.
 
 The reading below is a second one of the same documents, and no outside oracle. Commands are from 000 and bear its names, one
 function for each of its functions; records, levels and places are from 01 ("The tape", "Answers and limits", rules 1, 4, 5
@@ -37,6 +38,8 @@ ASSIGN = re.compile(rb"=(?![=/])")
 # a pattern name ends at ')', a blank or a form feed
 PATTERN = re.compile(rb"[^) \t\n\r\x0c]+")
 BRACE = re.compile(rb"[{}]")
+# the line before a script in the input of listings: mode and length
+HEADER = re.compile(rb"(\d+) (\d+)\n")
 
 
 class Script(Reading):
@@ -1428,14 +1431,21 @@ MENDED = [
 AS_IS = ["ld-verbose.ld", "elf_x86_64.xr", "elf_x86_64.xu", "i386pe.xr"]
 EXCHANGED = ["elf_x86_64.x", "elf_x86_64.xr", "elf_x86_64.xbn", "elf_x86_64.xs", "elf_i386.xn", "elf_iamcu.xe", "i386pep.x"]
 FOLDER = pathlib.Path(__file__).resolve().parent / "ldscripts"
+
+
+def exchanged(t):
+    """The script with the words exchanged that 000 does not read."""
+    for pattern, other in MENDED:
+        t = re.sub(pattern, other, t)
+    return t
+
+
 for file in AS_IS:
     t = (FOLDER / file).read_bytes()
     assert all(answer(mode, t).startswith("refused 4 ") for mode in BOTH), file
     long(W, 1, t)
 for k, file in enumerate(EXCHANGED):
-    t = (FOLDER / file).read_bytes()
-    for pattern, other in MENDED:
-        t = re.sub(pattern, other, t)
+    t = exchanged((FOLDER / file).read_bytes())
     assert all(answer(mode, t).startswith("ok ") for mode in BOTH), file
     long([k % 2], 1, t)
 
@@ -1463,19 +1473,19 @@ def main():
 
 
 def streams():
-    """The inputs of listing and listings, and what they must print."""
+    """The input of listing, and what it must print; of listings, whose input rust/choose.py chooses, what it must print."""
     crates = pathlib.Path(__file__).resolve().parent.parent / "crates"
     one = b"x += 1K;\n"
     (crates / "listing" / "stdin").write_bytes(one)
     (crates / "listing" / "stdout").write_text(listing(WILD, one))
-    scripts = [(mode - 2, times * head + tail) for mode, times, head, tail in CASES]
-    # every fourth of the short ones, the longest there are, and modes that are none
-    some_of = [x for x in scripts if len(x[1]) <= 300][::4] + [x for x in scripts if len(x[1]) == 65536][:3] + [(2, b"a"), (12345678901, b"")]
-    given = b"".join(b"%d %d\n%s" % (mode, len(script), script) for mode, script in some_of) + b"0 1 \na"
-    wanted = "".join(listing(mode, script) + "\n" for mode, script in some_of) + "malformed header\n"
-    (crates / "listings" / "stdin").write_bytes(given)
-    (crates / "listings" / "stdout").write_text(wanted)
-    print(len(some_of), "listings,", len(given), "bytes,", len(wanted), "bytes of answers")
+    given, p, wanted = (crates / "listings" / "stdin").read_bytes(), 0, []
+    while m := HEADER.match(given, p):
+        p = m.end() + int(m[2])
+        wanted.append(listing(int(m[1]), given[m.end() : p]))
+    # the last header is none
+    wanted.append("malformed header")
+    (crates / "listings" / "stdout").write_text("\n".join(wanted) + "\n")
+    print(len(wanted) - 1, "listings,", len(given), "bytes,", len("\n".join(wanted)) + 1, "bytes of answers")
 
 
 if __name__ == "__main__":

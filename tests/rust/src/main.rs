@@ -1,5 +1,6 @@
 //! Reads `MODE LENGTH` lines, each with LENGTH bytes of a script behind it, and prints one line for each script: `refused`,
-//! or the tree that wild's parser makes of it. The mode is passed over: wild's own is the only one here.
+//! or the tree that wild's parser makes of it. The mode is passed over: wild's own is the only one here. With the argument `repeated` it is a
+//! program to measure with, as crates/timing is.
 //!
 //! linker_script.rs is wild's file, byte for byte. What stands in this file is what it takes from its own crate.
 
@@ -84,13 +85,33 @@ fn run() -> std::io::Result<()> {
             Err(_) => "refused".to_owned(),
         };
         writeln!(out, "{line}")?;
+        if cfg!(feature = "trace") {
+            writeln!(out, "{}", winnow::trace::taken())?;
+        }
         header.clear();
     }
     out.flush()
 }
 
+/// Parses the script behind a line `MODE TIMES` so many times, and prints how many commands that makes: for measuring.
+fn repeated() -> std::io::Result<()> {
+    let mut given = std::io::stdin().lock();
+    let mut header = String::new();
+    given.read_line(&mut header)?;
+    let times: usize = header.split_whitespace().nth(1).and_then(|n| n.parse().ok()).expect("a line MODE TIMES");
+    let mut script = Vec::new();
+    given.read_to_end(&mut script)?;
+    let mut sum = 0;
+    for _ in 0..times {
+        let read = linker_script::LinkerScript::parse(std::hint::black_box(&script), Path::new("script"));
+        sum += read.map_or(0, |read| std::hint::black_box(read).commands.len());
+    }
+    println!("{sum}");
+    Ok(())
+}
+
 fn main() -> std::io::Result<()> {
     // wild's parser knows no limit of levels
     let stack = std::thread::Builder::new().stack_size(2 << 30);
-    stack.spawn(run)?.join().expect("no panic")
+    stack.spawn(if std::env::args().any(|a| a == "repeated") { repeated } else { run })?.join().expect("no panic")
 }

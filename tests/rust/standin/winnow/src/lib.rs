@@ -9,6 +9,8 @@ use std::ops::{Deref, Index, RangeFrom, RangeTo};
 
 use error::ContextError;
 
+pub mod trace;
+
 pub type Result<O, E = ContextError> = std::result::Result<O, E>;
 
 /// Bytes of a script.
@@ -315,21 +317,29 @@ pub mod combinator {
     use std::ops::RangeFrom;
 
     use crate::error::ContextError;
+    use crate::trace::Site;
     use crate::{Cursor, Parser, Result};
 
     /// Some value, or None with the cursor put back.
+    #[track_caller]
     pub fn opt<I: Copy, O>(mut p: impl Parser<I, O>) -> impl Parser<I, Option<O>> {
+        let site = Site::here();
         move |input: &mut I| {
             let start = *input;
-            Ok(p.parse_next(input).map_err(|_| *input = start).ok())
+            let read = p.parse_next(input);
+            site.tried('o', 0, read.is_ok());
+            Ok(read.map_err(|_| *input = start).ok())
         }
     }
 
     /// Succeeds where the parser fails; the cursor stays.
+    #[track_caller]
     pub fn not<I: Copy, O>(mut p: impl Parser<I, O>) -> impl Parser<I, ()> {
+        let site = Site::here();
         move |input: &mut I| {
             let start = *input;
             let read = p.parse_next(input).is_ok();
+            site.tried('n', 0, read);
             *input = start;
             if read { Err(ContextError) } else { Ok(()) }
         }
@@ -359,17 +369,20 @@ pub mod combinator {
     }
 
     /// The end mark is tried first each time; where it is not read, the parser must be, and must pass something.
+    #[track_caller]
     pub fn repeat_till<I: Cursor, O, E>(
         many: RangeFrom<usize>,
         mut p: impl Parser<I, O>,
         mut end: impl Parser<I, E>,
     ) -> impl Parser<I, (Vec<O>, E)> {
         assert_eq!(many.start, 0);
+        let site = Site::here();
         move |input: &mut I| {
             let mut values = vec![];
             loop {
                 let start = *input;
                 if let Ok(mark) = end.parse_next(input) {
+                    site.met('t', values.len().min(2));
                     return Ok((values, mark));
                 }
                 *input = start;
@@ -386,23 +399,27 @@ pub mod combinator {
     }
 
     pub trait Alt<I, O> {
-        fn choice(&mut self, input: &mut I) -> Result<O>;
+        fn choice(&mut self, input: &mut I, site: Site) -> Result<O>;
     }
 
     /// The first of the parsers that reads; each starts where the first did.
+    #[track_caller]
     pub fn alt<I, O>(mut parsers: impl Alt<I, O>) -> impl Parser<I, O> {
-        move |input: &mut I| parsers.choice(input)
+        let site = Site::here();
+        move |input: &mut I| parsers.choice(input, site)
     }
 
     macro_rules! alt_of {
         ($($p:ident $n:tt),+) => {
             impl<I: Copy, O, $($p: Parser<I, O>),+> Alt<I, O> for ($($p,)+) {
-                fn choice(&mut self, input: &mut I) -> Result<O> {
+                fn choice(&mut self, input: &mut I, site: Site) -> Result<O> {
                     let start = *input;
                     $(
                         *input = start;
-                        if let Ok(value) = self.$n.parse_next(input) {
-                            return Ok(value);
+                        let read = self.$n.parse_next(input);
+                        site.tried('a', $n, read.is_ok());
+                        if read.is_ok() {
+                            return read;
                         }
                     )+
                     *input = start;
