@@ -11,7 +11,7 @@ use Rattle.rules.specs.Expressions.{chain}
 use Rattle.lex.specs.Contract.{Went, went, lost, Lexes}
 use Rattle.lex.specs.declared.Cursor.{Cursor}
 use Rattle.lex.proofs.Lexes.{opt-some}
-use Rattle.tape.specs.Contract.{Run, Room, Pushed, Reads, stepped, Came}
+use Rattle.tape.specs.Contract.{Run, Room, Pushed, Reads, Came}
 use Rattle.tape.proofs.Runs.{fewer, bytes-then, one-more, still-there}
 
 module _ (op : Rule ℕ) (operand : Rule (Unit {0})) where

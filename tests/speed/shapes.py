@@ -1,0 +1,84 @@
+#!/usr/bin/env python3
+"""Scripts to measure with: shapes.py SHAPE LENGTH writes one of at most LENGTH bytes."""
+import sys
+
+ORDINARY = """SECTIONS
+{
+  . = 0x10000 + SIZEOF_HEADERS;
+  .text@ : ALIGN(16)
+  {
+    KEEP(*(.init@))
+    *(.text .text.* .gnu.linkonce.t.*)
+    . = ALIGN(4096); /* the page's end */
+    PROVIDE_HIDDEN(__end@ = .);
+  } > FLASH
+  .data@ : AT(LOADADDR(.text@) + SIZEOF(.text@))
+  {
+    *(.data .data.*)
+    edata@ = . + (4 * 1024 - 1) & ~(4 * 1024 - 1);
+  } > RAM
+  ASSERT(edata@ < 0x20000000, "no room")
+}
+"""
+
+
+def filled(head, piece, tail=""):
+    """Of a length: head, as many pieces as fit (`@` is the piece's number, one digit), tail."""
+
+    def of(length):
+        parts, room = [], length - len(head) - len(tail)
+        while len(piece) <= room:
+            parts.append(piece.replace("@", str(len(parts) % 10)))
+            room -= len(piece)
+        return (head + "".join(parts) + tail).encode()
+
+    return of
+
+
+def far(piece):
+    """Of a length: items that are tried as PROVIDE over a comment which ends half way on, where an expression follows that is not closed."""
+
+    def of(length):
+        items = filled("SECTIONS{a :{", "PROVIDE(a =/* )")(length // 2)
+        return items + filled("*/1", piece, " (a)}}")(length - len(items))
+
+    return of
+
+
+CONTENTS = "SECTIONS{a :{"
+SHAPES = {
+    "ordinary sections": filled("", ORDINARY),
+    "arguments": filled("", "a.o "),
+    "arguments in capitals": filled("", "LIB "),
+    "one long token": filled("", "a"),
+    "blanks": filled("", " "),
+    "one comment": filled("/*", "x", "*/a"),
+    "line comments": filled("", "#\n"),
+    "a chain of +": filled("x = 1", "+ 1", ";"),
+    "a chain of ||": filled("x = a", "||a", ";"),
+    "a chain of dots": filled("x = .", "*.", ";"),
+    "100 brackets": filled("x = 1", "+" + "(" * 100 + "1" + ")" * 100, ";"),
+    "100 prefixes": filled("x = 1", "+" + "~" * 100 + "1", ";"),
+    "100 ternaries": filled("", "x = " + "a?1:" * 100 + "1;"),
+    "100 groups": filled("", "GROUP(" * 100 + ")" * 100),
+    "assignments": filled("", "x = 1;"),
+    "empty sections": filled("SECTIONS{", ".a :{}", "}"),
+    "start expressions": filled("SECTIONS{.a", " a", " :{}}"),
+    "clauses": filled("SECTIONS{.a :{}", ">a ", "}"),
+    "patterns": filled(CONTENTS + "*(", "a ", ")}}"),
+    "matchers": filled(CONTENTS, "a(b)", "}}"),
+    "KEEP given up": filled(CONTENTS, "KEEP(*(.a) ", "}}"),
+    "PROVIDE given up": filled(CONTENTS, "PROVIDE(a = 1 x)", "}}"),
+    "ASSERT given up": filled(CONTENTS, "ASSERT(1 + 1)", "}}"),
+    "regions": filled("MEMORY{", "a :o=1,l=1 ", "}"),
+    "segments": filled("PHDRS{", "a 1;", "}"),
+    "flag clauses": filled("PHDRS{a 1 ", "FLAGS(1)", ";}"),
+    "VERSION": filled("VERSION{", "a", "}"),
+    "a comment that does not end": filled(CONTENTS, "PROVIDE(a =/* )", "}}"),
+    "a line that does not end": filled(CONTENTS, "PROVIDE(a =#x )", "}}"),
+    "a comment that ends far on": far("+1"),
+    "the same before brackets": far("+" + "(" * 90 + "1" + ")" * 90),
+}
+
+if __name__ == "__main__":
+    sys.stdout.buffer.write(SHAPES[sys.argv[1]](int(sys.argv[2])))
