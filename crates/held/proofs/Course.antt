@@ -11,7 +11,7 @@ use Rattle.rules.specs.Rule.{Out, got, fail, deep, holds, after, _>>=_}
 use Rattle.rules.specs.Bytes.{skip-comments-and-whitespace, token}
 use Rattle.rules.specs.declared.Token.{Token as Name}
 use Rattle.held.specs.Step.{Comes}
-use Rattle.held.specs.Walk.{sign, no-token, entered, turn-at, Course, met, turned, course, words-of, Outcome, walk}
+use Rattle.held.specs.Walk.{sign, no-token, by-skip, turn-at, Course, met, turned, course, words-of, Outcome, walk}
 use Rattle.held.specs.declared.Step.the-variants as stepping
 use Rattle.held.specs.declared.Turn.{Turn}
 use Rattle.held.specs.declared.Turn.the-variants.{Token, Sign, End, Stop}
@@ -24,7 +24,7 @@ module _ {s : List ℕ} {p : ℕ} where
   unfolding turn-at _>>=_
   token-turn {t} {e} x = go (skip-comments-and-whitespace .out s p (holds 0 [])) (x .said (holds 0 []))
     where
-      go : (o : Out (Unit {0})) → after o (λ u q h. token .out s q h) ≡ got t e (holds 0 []) → entered s p o ≡ Token t e
+      go : (o : Out (Unit {0})) → after o (λ u q h. token .out s q h) ≡ got t e (holds 0 []) → by-skip s p o ≡ Token t e
       go (got u q h) y = rw y
       go fail y = absurd (let z : _≡_ {A = ℕ} 0 1 = cc in omega arith)
       go deep y = absurd (let z : _≡_ {A = ℕ} 0 1 = cc in omega arith)

@@ -17,7 +17,7 @@ use Rattle.rules.proofs.Text.{run-end}
 use Rattle.lex.specs.Contract.{Lexes, went, lost}
 use Rattle.lex.proofs.Lexes.{then-on, passed-over, given, sized, asked, run-over, run-none}
 use Rattle.held.specs.Step.{place}
-use Rattle.held.specs.Walk.{sign, skipped, entered, turn-at, met, turned, course}
+use Rattle.held.specs.Walk.{sign, by-token, by-skip, turn-at, met, turned, course}
 use Rattle.held.specs.declared.Turn.{Turn}
 use Rattle.held.specs.declared.Turn.the-variants.{Token, Sign, End, Stop}
 use Rattle.held.proofs.Course.{end-turn}
@@ -35,12 +35,12 @@ module _ (s : List ℕ) (p : ℕ) where
   untaken q h false true = omega arith
   untaken q h false false = tt
 
-  taken : (E : Type 0) (q : ℕ) → p ≤ q → (o : Out Name) → PaidOut E s 0 p (suc p) o → Ahead p (skipped s q o)
+  taken : (E : Type 0) (q : ℕ) → p ≤ q → (o : Out Name) → PaidOut E s 0 p (suc p) o → Ahead p (by-token s q o)
   taken E q h (got t r g) x = let y = x .few in omega arith
   taken E q h fail x = untaken q h (leb (length s) q) (sign (getD s q 0))
   taken E q h deep x = untaken q h (leb (length s) q) (sign (getD s q 0))
 
-  turning : (E F : Type 0) (o : Out (Unit {0})) → PaidOut E s 0 p p o → PaidOut F s 0 p (suc p) (after o (λ u q h. token .out s q h)) → Ahead p (entered s p o)
+  turning : (E F : Type 0) (o : Out (Unit {0})) → PaidOut E s 0 p p o → PaidOut F s 0 p (suc p) (after o (λ u q h. token .out s q h)) → Ahead p (by-skip s p o)
   turning E F (got u q h) x y = taken F q (x .on) (token .out s q h) y
   turning E F fail x y = tt
   turning E F deep x y = tt

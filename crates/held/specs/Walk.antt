@@ -22,19 +22,19 @@ abbrev pub no-token : List ℕ → ℕ → Turn
 no-token s p = cond (leb (length s) p) End (cond (sign (getD s p 0)) (Sign (p + 1)) (Stop p))
 
 -- what stands at the place p, by what reading a token there answers
-abbrev pub skipped : List ℕ → ℕ → Out Name → Turn
-skipped s p (got t q h) = Token t q
-skipped s p fail = no-token s p
-skipped s p deep = no-token s p
+abbrev pub by-token : List ℕ → ℕ → Out Name → Turn
+by-token s p (got t q h) = Token t q
+by-token s p fail = no-token s p
+by-token s p deep = no-token s p
 
 -- what stands after the blanks and comments from the place p on, by what skipping them answers
-abbrev pub entered : List ℕ → ℕ → Out (Unit {0}) → Turn
-entered s p (got u q h) = skipped s q (token .out s q h)
-entered s p fail = Stop p
-entered s p deep = Stop p
+abbrev pub by-skip : List ℕ → ℕ → Out (Unit {0}) → Turn
+by-skip s p (got u q h) = by-token s q (token .out s q h)
+by-skip s p fail = Stop p
+by-skip s p deep = Stop p
 
 unfoldable pub turn-at : List ℕ → ℕ → Turn
-turn-at s p = entered s p (skip-comments-and-whitespace .out s p (holds 0 []))
+turn-at s p = by-skip s p (skip-comments-and-whitespace .out s p (holds 0 []))
 
 -- the tokens that were met, and what the walk says then
 pub record Course : Type 0 where

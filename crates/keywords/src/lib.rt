@@ -180,7 +180,7 @@ fn looked_up(words: &[u8], lengths: &[u8], l: &[u8]) -> usize
     0
 }
 
-// The same, with the tables.
+// The number of l by the two tables above.
 fn in_table(l: &[u8]) -> usize
     ensures { λ r. ⌜ r ≡ keyword-of (now (l .entry)) ⌝ }
 {
