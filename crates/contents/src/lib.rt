@@ -3,7 +3,8 @@ ghost use Prim.Native.Nat.{_≤_};
 ghost use Rattle.rules.specs.Rule.{_or-else_, repeat-till, word};
 ghost use Rattle.rules.specs.Expressions.{expression};
 ghost use Rattle.rules.specs.Contents as rule;
-ghost use Rattle.tape.specs.Contract.{Room, Reads, stepped, counted};
+ghost use Rattle.tape.specs.Contract.{Room, Reads, stepped, counted, valued};
+ghost use Rattle.contents.specs.Alone.{Alone, AloneFrom, Within, Item};
 use lex::Cursor;
 use lex::Read;
 use lex::Taken;
@@ -271,26 +272,61 @@ fn assignment(script: &[u8], tape: &mut [u64], c: Cursor, mode: Mode, left: usiz
     Step::Got(i)
 }
 
-// One item of a section's contents: the tries in 000's order.
-pub fn contents_command(script: &[u8], tape: &mut [u64], c: Cursor, mode: Mode, left: usize) -> Step
+// CONSTRUCTORS, and where the token that it begins ends.
+fn last_try(script: &[u8], tape: &mut [u64], c: Cursor) -> Counted
     requires { ⌜ Room (now script) (now tape) c ⌝ }
-    ensures { λ r. ⌜ Reads (rule.contents-command (expression mode left)) (now (script .entry)) (now (tape .entry)) c (stepped r) (now (tape .exit)) ⌝ }
+    ensures { λ r. ⌜ Reads rule.constructors (now (script .entry)) (now (tape .entry)) c (valued tt (counted r)) (now (tape .exit)) × Within (now (script .entry)) c (counted r) ⌝ }
+{
+    let made = constructors(script, tape, c);
+    let word = c.take_while(script, Class::Plain);
+    let Taken::Got(_, d) = word else {
+        return made.counted(0);
+    };
+    made.counted(d.at)
+}
+
+// One item of a section's contents: the tries in 000's order. The number is up to where CONSTRUCTORS alone is read.
+fn contents_command(script: &[u8], tape: &mut [u64], c: Cursor, mode: Mode, left: usize) -> Counted
+    requires { ⌜ Room (now script) (now tape) c ⌝ }
+    ensures { λ r. ⌜ Reads (rule.contents-command (expression mode left)) (now (script .entry)) (now (tape .entry)) c (valued tt (counted r)) (now (tape .exit)) × AloneFrom (expression mode left) (now (script .entry)) (counted r) ⌝ }
 {
     let provided = contents_provide(script, tape, c, mode, left);
     let Step::Fail = provided else {
-        return provided;
+        return provided.counted(0);
     };
     let told = contents_assert(script, tape, c, mode, left);
     let Step::Fail = told else {
-        return told;
+        return told.counted(0);
     };
     let matched = matcher(script, tape, c);
     let Step::Fail = matched else {
-        return matched;
+        return matched.counted(0);
     };
     let set = assignment(script, tape, c, mode, left);
     let Step::Fail = set else {
-        return set;
+        return set.counted(0);
     };
-    constructors(script, tape, c)
+    last_try(script, tape, c)
+}
+
+// The same, where up to a place CONSTRUCTORS alone is known to be read: a token of many is not read again for each.
+pub fn contents_item(
+    script: &[u8],
+    tape: &mut [u64],
+    c: Cursor,
+    mode: Mode,
+    left: usize,
+    alone: usize,
+) -> Counted
+    requires { ⌜ Room (now script) (now tape) c ⌝ }
+    requires { ⌜ Alone (expression mode left) (now script) (c .at) alone ⌝ }
+    ensures { λ r. ⌜ Item (expression mode left) (now (script .entry)) (now (tape .entry)) c (counted r) (now (tape .exit)) ⌝ }
+{
+    if c.at < alone {
+        if c.starts(script, b"CONSTRUCTORS") {
+            let again = constructors(script, tape, c);
+            return again.counted(alone);
+        }
+    }
+    contents_command(script, tape, c, mode, left)
 }

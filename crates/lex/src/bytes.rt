@@ -2,7 +2,7 @@
 ghost use mathlib.Core.Path.{_≡_};
 ghost use lib.ListN.{drop};
 ghost use mathlib.Core.Bool.{_||_};
-ghost use Rattle.rules.specs.Text.{among as one-of, begins as begins-with, run as run-of, find as find-in, part-of, same as same-as};
+ghost use Rattle.rules.specs.Text.{ascii, among as one-of, begins as begins-with, run as run-of, find as find-in, part-of, same as same-as};
 ghost use Rattle.rules.specs.Bytes.{between as is-between, is-digit, is-hex, is-letter, is-initial, is-identifier};
 ghost use Rattle.lex.specs.Class.{has, found};
 
@@ -97,6 +97,16 @@ fn is_identifier(b: u8) -> bool
     is_initial(b)
 }
 
+// Whether b ends a token. Few bytes are asked at a time, which is quicker.
+fn ends_token(b: u8) -> bool
+    ensures { λ r. ⌜ r ≡ one-of (ascii " (){};,\n\t") b ⌝ }
+{
+    if among(b" (){", b) {
+        return true;
+    }
+    among(b"};,\n\t", b)
+}
+
 impl Class {
     // Whether a byte is of this class.
     pub fn holds(self, b: u8) -> bool
@@ -104,7 +114,7 @@ impl Class {
     {
         match self {
             Class::Blank => among(b" \t\r\n", b),
-            Class::Plain => !among(b" (){};,\n\t", b),
+            Class::Plain => !ends_token(b),
             Class::Quoted => b != b'"',
             Class::Digit => is_digit(b),
             Class::Hex => is_hex(b),

@@ -1,7 +1,7 @@
 -- What a rule answers does not depend on the records held before it: it adds the same records to whatever was held. Each combinator keeps this,
 -- by cases on what its first part answers.
 use mathlib.Core.Path.{_≡_, refl, sym, ap, _∙_}
-use Prim.Native.Nat.{ℕ, _+_}
+use Prim.Native.Nat.{ℕ, zero, suc, _+_}
 use Prim.Native.String.{String}
 use native.Mathlib.Omega.{arith}
 use native.Mathlib.Nat.{add-assoc}
@@ -11,7 +11,7 @@ use mathlib.Core.Option.{Option, none, some}
 use lib.ListN.{length, drop}
 use lib.Dec.{eqb, leb}
 use Rattle.rules.specs.Text.{ascii, begins, run, find}
-use Rattle.rules.specs.Rule.{Held, Out, got, fail, deep, Rule, give, fails, too-deep, after, _>>=_, if_then_else_, otherwise, _or-else_, opt, perhaps, here, size, add, tag, not-tag, starts, span, take-while, pass-while, taken-until, take-until, bytes-of, bytes}
+use Rattle.rules.specs.Rule.{Held, Out, got, fail, deep, Rule, give, fails, too-deep, after, _>>=_, if_then_else_, otherwise, _or-else_, opt, perhaps, here, size, repeating, add, tag, not-tag, starts, span, take-while, pass-while, taken-until, take-until, bytes-of, bytes}
 use Rattle.rules.specs.declared.Token.{Token}
 
 abbrev pub nothing : Held
@@ -85,6 +85,11 @@ module _ {A : Type 0} where
 pub opt-blind : {A : Type 0} {m : Rule A} → Blind m → Blind (opt m)
 unfolding opt
 opt-blind x = (x seen-by (λ a. give-blind (some a))) or-blind give-blind none
+
+pub repeat-blind : {A : Type 0} {item : Rule A} {end : Rule (Unit {0})} → Blind item → Blind end → (n k : ℕ) → Blind (repeating item end n k)
+unfolding repeating
+repeat-blind x y zero k = fails-blind
+repeat-blind x y (suc n) k = opt-blind y seen-by (λ ended. if-blind _ (give-blind _) (x seen-by (λ _. repeat-blind x y n (suc k))))
 
 pub add-blind : (k a b c d : ℕ) → Blind (add k a b c d)
 unfolding add

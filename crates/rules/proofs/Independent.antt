@@ -14,7 +14,7 @@ use Rattle.rules.proofs.Blind.{Blind, _seen-by_, perhaps-blind, if-blin
 
 -- one rule after another, of which the first says nothing
 infixr 20 _then-blind_
-_then-blind_ : {A B : Type 0} {m : Rule A} {n : Rule B} → Blind m → Blind n → Blind (m >> n)
+pub _then-blind_ : {A B : Type 0} {m : Rule A} {n : Rule B} → Blind m → Blind n → Blind (m >> n)
 x then-blind y = x seen-by (λ _. y)
 
 -- BYTES AND NUMBERS
@@ -61,7 +61,7 @@ number-blind =
     seen-by (λ by. give-blind _))
 
 -- OPERATORS AND ROWS
-signed-blind : (w : List ℕ) (kind : ℕ) → Blind (signed w kind)
+pub signed-blind : (w : List ℕ) (kind : ℕ) → Blind (signed w kind)
 unfolding signed
 signed-blind w kind = tag-blind _ then-blind give-blind _
 
@@ -69,7 +69,7 @@ unless-blind : (w next : List ℕ) (kind : ℕ) → Blind (signed-unless w next 
 unfolding signed-unless
 unless-blind w next kind = tag-blind _ then-blind not-tag-blind _ then-blind give-blind _
 
-two-blind : (a b : List ℕ) (j k : ℕ) → Blind (signed a j or-else signed b k)
+pub two-blind : (a b : List ℕ) (j k : ℕ) → Blind (signed a j or-else signed b k)
 two-blind a b j k = signed-blind a j or-blind signed-blind b k
 
 comparison-blind : Blind comparison

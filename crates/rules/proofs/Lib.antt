@@ -7,5 +7,7 @@ pub mod Numbers
 pub mod Expressions
 pub mod Blind
 pub mod Independent
+pub mod Like
+pub mod Alone
 pub mod Forward
 pub mod Commands

@@ -1,14 +1,14 @@
 -- Laws of lists of bytes, by induction on the list: what is found in a list lies within it, and what a question answers from one place on
 -- follows from the byte there and what it answers from the next.
-use mathlib.Core.Path.{_≡_, refl, sym, ap}
-use Prim.Native.Nat.{ℕ, suc, _+_, _≤_, _<_, max}
+use mathlib.Core.Path.{_≡_, refl, sym, ap, subst, _∙_}
+use Prim.Native.Nat.{ℕ, zero, suc, _+_, _≤_, _<_, max}
 use native.Mathlib.Omega.{arith}
 use native.Mathlib.Numerals.{add-one}
 use borrow.Author.Tests.{eq-eqb, ne-eqb, le-leb, lt-leb}
-use mathlib.Core.List.{List, [], _∷_}
-use mathlib.Core.Bool.{Bool, true, false, cond, false≢true}
+use mathlib.Core.List.{List, [], _∷_, _++_}
+use mathlib.Core.Bool.{Bool, true, false, cond, _||_, or-assoc, false≢true}
 use mathlib.Core.Option.{Option, none, some, Option·map}
-use lib.Dec.{eqb}
+use lib.Dec.{T, eqb, eqb→eq}
 use lib.ListN.{length, take, drop, getD, length-drop, drop-of-length-le}
 use lib.Seq.{drop-cons}
 use Rattle.rules.specs.Text.{among, begins, same, run, find, part-of}
@@ -27,7 +27,20 @@ module _ (l : List ℕ) (b i : ℕ) where
   unfolding among
   among-on h n = rw (add-one i, drop-cons l i 0 h, ne-eqb b (getD l i 0) (λ e. n (sym e)))
 
+-- a list in two parts
+pub among-both : (k l : List ℕ) (b : ℕ) → among (k ++ l) b ≡ (among k b || among l b)
+unfolding among
+among-both [] l b = refl
+among-both (a ∷ k) l b = ap (λ z. eqb b a || z) (among-both k l b) ∙ sym (or-assoc (eqb b a) (among k b) (among l b))
+
 -- WHAT A LIST BEGINS WITH
+if-equal : (b a : ℕ) (t : Bool) → cond (eqb b a) t false ≡ true → b ≡ a
+if-equal b a t e = go (eqb b a) refl e
+  where
+    go : (x : Bool) → eqb b a ≡ x → cond x t false ≡ true → b ≡ a
+    go true u q = eqb→eq b a (subst T (sym u) tt)
+    go false u q = absurd (false≢true q)
+
 pub begins-within : (w l : List ℕ) → begins w l ≡ true → length w ≤ length l
 unfolding begins
 begins-within [] l e = omega arith
@@ -37,6 +50,24 @@ begins-within (a ∷ w) (b ∷ l) e = go (eqb b a) (begins-within w l) e
     go : (t : Bool) → (begins w l ≡ true → length w ≤ length l) → cond t (begins w l) false ≡ true → length (a ∷ w) ≤ length (b ∷ l)
     go true ih q = omega (arith, ih q)
     go false ih q = absurd (false≢true q)
+
+-- where a text stands, no text stands that has another first byte; and its first byte is the list's
+module _ (a : ℕ) (v l : List ℕ) where
+  first-byte : begins (a ∷ v) l ≡ true → (m : List ℕ) × (l ≡ a ∷ m)
+  unfolding begins
+  first-byte e = go l e
+    where
+      go : (l : List ℕ) → begins (a ∷ v) l ≡ true → (m : List ℕ) × (l ≡ a ∷ m)
+      go [] q = absurd (false≢true q)
+      go (b ∷ m) q = (m, ap (λ z. z ∷ m) (if-equal b a (begins v m) q))
+
+  pub begins-other : (c : ℕ) → (a ≡ c → ⊥) → (w : List ℕ) → begins (a ∷ v) l ≡ true → begins (c ∷ w) l ≡ false
+  unfolding begins
+  begins-other c n w e = rw (first-byte e .1, ne-eqb a c n)
+
+  pub run-begins : (t : ℕ → Bool) → t a ≡ true → begins (a ∷ v) l ≡ true → 0 < run t l
+  unfolding run
+  run-begins t h e = rw (first-byte e .1, h) (omega arith)
 
 module _ (w l : List ℕ) (i : ℕ) where
   pub begins-done : length w ≤ i → begins (drop i w) (drop i l) ≡ true
@@ -65,6 +96,19 @@ pub run-within : (t : ℕ → Bool) (l : List ℕ) → run t l ≤ length l
 unfolding run
 run-within t [] = omega arith
 run-within t (b ∷ l) = elim (t b) as (λ x. cond x (suc (run t l)) 0 ≤ length (b ∷ l)) [ true ↦ omega (arith, run-within t l) | false ↦ omega arith ]
+
+-- from each place in a run it ends where it ends from the first
+pub run-goes : (t : ℕ → Bool) (s : List ℕ) (p q : ℕ) → p ≤ q → q ≤ p + run t (drop p s) → q + run t (drop q s) ≡ p + run t (drop p s)
+unfolding run
+run-goes t [] p q l h = omega (arith, run-within t (drop p []), length-drop {A = ℕ} p [], run-within t (drop q []), length-drop {A = ℕ} q [])
+run-goes t (x ∷ s) zero zero l h = omega arith
+run-goes t (x ∷ s) zero (suc q) l h = go (λ k. run-goes t s 0 q (omega arith) k) (t x) h
+  where
+    go : (q ≤ 0 + run t s → q + run t (drop q s) ≡ 0 + run t s) → (b : Bool) → suc q ≤ 0 + cond b (suc (run t s)) 0 → suc q + run t (drop q s) ≡ 0 + cond b (suc (run t s)) 0
+    go ih true k = omega (arith, ih (omega arith))
+    go ih false k = absurd (omega arith)
+run-goes t (x ∷ s) (suc p) zero l h = absurd (omega arith)
+run-goes t (x ∷ s) (suc p) (suc q) l h = omega (arith, run-goes t s p q (omega arith) (omega arith))
 
 module _ (t : ℕ → Bool) (s : List ℕ) (p : ℕ) where
   pub run-inside : p + run t (drop p s) ≤ max p (length s)

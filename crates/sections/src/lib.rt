@@ -313,6 +313,7 @@ fn contents(script: &[u8], tape: &mut [u64], c: Cursor, mode: Mode, left: usize)
     ensures { λ r. ⌜ Reads (repeat-till (contents-command (expression mode left)) (word "}")) (now (script .entry)) (now (tape .entry)) c (counted r) (now (tape .exit)) ⌝ }
 {
     let mut at = c;
+    let mut alone = 0;
     let mut k = 0;
     let mut turns = script.len() + 1;
     while 0 < turns {
@@ -323,11 +324,12 @@ fn contents(script: &[u8], tape: &mut [u64], c: Cursor, mode: Mode, left: usize)
             }
             Read::Fail => {}
         }
-        let item = contents::contents_command(script, tape, at, mode, left);
-        let Step::Got(e) = item else {
-            return item.counted(0);
+        let item = contents::contents_item(script, tape, at, mode, left, alone);
+        let Counted::Got(n, e) = item else {
+            return item;
         };
         at = e;
+        alone = n;
         k += 1;
         turns -= 1;
     }

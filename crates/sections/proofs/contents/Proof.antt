@@ -1,5 +1,5 @@
 -- The loop is the rule's: what is left is the rule of the turns that are left.
-use mathlib.Core.Path.{_≡_, refl, sym, ap, _∙_}
+use mathlib.Core.Path.{_≡_, refl, sym, ap, subst, _∙_}
 use Prim.Native.Nat.{ℕ, _+_, _-_}
 use native.Mathlib.Omega.{arith}
 use native.Mathlib.Numerals.{add-one}
@@ -11,21 +11,33 @@ use Rattle.rules.specs.Contents.{contents-command}
 use Rattle.rules.proofs.Pays.{repeats, over}
 use Rattle.rules.proofs.Expressions.{expression-pays}
 use Rattle.rules.proofs.Commands.{contents-command-pays}
-use Rattle.lex.specs.Contract.{read, taken}
+use Rattle.lex.specs.Contract.{Went, went, lost, sunk, read}
 use Rattle.lex.specs.declared.Cursor.{Cursor}
 use Rattle.lex.proofs.Lexes.{known, given, refused, sized, opt-some, opt-none}
-use Rattle.tape.specs.Contract.{Reads, stepped, counted}
+use Rattle.tape.specs.Contract.{Reads, counted, valued}
 use Rattle.tape.proofs.Runs.{known-read, runs, as-bytes, as-lost}
-use Rattle.tape.proofs.Way.{Way, Loop, enter, bytes, called, ends-here, halts, not-stepped, turn, spent}
+use Rattle.tape.proofs.Way.{Way, Loop, enter, bytes, called, ends-here, halts, not-counted, Unread, turn, spent}
+use Rattle.contents.specs.Alone.{Alone, AloneFrom}
 use borrow.Author.Needs.{needs}
 use Rattle.sections.proofs.contents.Statement.{statement}
 use Rattle.sections.proofs.contents.Tie as tie
 
+-- an answer that is no reading, with its number or without
+unread-too : (r : Went ℕ) → Unread r → Unread (valued (tt {0}) r)
+unread-too (went n e) u = u
+unread-too lost u = u
+unread-too sunk u = u
+
+as-before : (r : Went ℕ) → Unread r → r ≡ valued 0 (valued (tt {0}) r)
+as-before (went n e) u = absurd u
+as-before lost u = refl
+as-before sunk u = refl
+
 abbrev Inv-loop : tie.InvT-loop
-Inv-loop script tape₀ mode left at₀ k₀ turns₀ mark tape at k turns = Loop (Reads (repeat-till (contents-command (expression mode left)) (word "}")) script tape₀ at₀) script (length tape₀) (at₀ .count) (repeating (contents-command (expression mode left)) (word "}") turns k) tape at × (k + turns ≡ length script + 1)
+Inv-loop script tape₀ mode left at₀ alone₀ k₀ turns₀ mark tape at alone k turns = Loop (Reads (repeat-till (contents-command (expression mode left)) (word "}")) script tape₀ at₀) script (length tape₀) (at₀ .count) (repeating (contents-command (expression mode left)) (word "}") turns k) tape at × (k + turns ≡ length script + 1) × Alone (expression mode left) script (at .at) alone
 
 abbrev μ-loop : tie.MeasureT-loop
-μ-loop script tape₀ mode left at₀ k₀ turns₀ mark tape at k turns = turns
+μ-loop script tape₀ mode left at₀ alone₀ k₀ turns₀ mark tape at alone k turns = turns
 
 abbrev Along : tie.Start Inv-loop μ-loop → ℕ → List ℕ → Cursor → Type 0
 Along start = Way (repeat-till (contents-command (expression (start .args .mode) (start .args .left))) (word "}")) (start .args .script .now) (start .args .tape .now) (start .args .c)
@@ -42,13 +54,13 @@ abbrev at-enum-told : (c : tie.After-enum-told Inv-loop μ-loop) → Along (c .b
 unfolding repeat-till repeating if_then_else_
 at-enum-told c = bytes _ (at-turn (c .before .before .before .before)) refl (opt-none (known read (c .before .before .word .ensures) (c .enum-told .given .1)))
 
-abbrev at-item : (c : tie.After-item Inv-loop μ-loop) → Along (c .before .before .before .before .before .before .before .before .before .before .before .before .before .before) 0 (c .before .before .before .before .contents-command .last .1 .0) (c .item .given .0 .0)
+abbrev at-item : (c : tie.After-item Inv-loop μ-loop) → Along (c .before .before .before .before .before .before .before .before .before .before .before .before .before .before) 0 (c .before .before .before .before .contents-item .last .1 .0) (c .item .given .0 .1 .0)
 unfolding repeat-till repeating if_then_else_
-at-item c = called _ (at-enum-told (c .before .before .before .before .before .before)) refl (known-read stepped (c .before .before .before .before .contents-command .ensures) (c .item .given .1)) (c .before .before .before .before .contents-command .kept .1 .0)
+at-item c = called _ (at-enum-told (c .before .before .before .before .before .before)) refl (known-read (λ r. valued tt (counted r)) (c .before .before .before .before .contents-item .ensures .0) (c .item .given .1)) (c .before .before .before .before .contents-item .kept .1 .0)
 
 loop-holds : tie.Need-loop-holds Inv-loop μ-loop
 unfolding repeat-till repeating if_then_else_
-loop-holds c = (record { way = bytes _ (enter (λ f i. repeats (contents-command-pays (expression-pays (c .before .before .args .mode) (c .before .before .args .left)) f i) (over _)) (c .before .before .pre)) refl sized; left = ap (λ n. repeating (contents-command (expression (c .before .before .args .mode) (c .before .before .args .left))) (word "}") n 0) (sym (add-one (length (c .before .before .args .script .now)))) }, omega arith)
+loop-holds c = (record { way = bytes _ (enter (λ f i. repeats (contents-command-pays (expression-pays (c .before .before .args .mode) (c .before .before .args .left)) f i) (over _)) (c .before .before .pre)) refl sized; left = ap (λ n. repeating (contents-command (expression (c .before .before .args .mode) (c .before .before .args .left))) (word "}") n 0) (sym (add-one (length (c .before .before .args .script .now)))) }, omega arith, λ q l m. absurd (omega arith))
 
 same-length : tie.Need-same-length Inv-loop μ-loop
 same-length c = (at-end (c .before)) .size
@@ -57,15 +69,15 @@ returns : tie.Need-returns Inv-loop μ-loop
 unfolding repeat-till repeating if_then_else_
 returns c = ends-here (at-end (c .before)) (as-bytes (given _))
 
-contents-command-requires : tie.Need-contents-command-requires Inv-loop μ-loop
-contents-command-requires c κs = (at-enum-told (c .before)) .room
+contents-item-requires : tie.Need-contents-item-requires Inv-loop μ-loop
+contents-item-requires c κs = ((at-enum-told (c .before)) .room, c .before .before .before .before .before .before .loop .inv .2)
 
 same-length-2 : tie.Need-same-length-2 Inv-loop μ-loop
-same-length-2 c = c .before .before .before .before .contents-command .kept .1 .0 ∙ (at-enum-told (c .before .before .before .before .before .before)) .size
+same-length-2 c = c .before .before .before .contents-item .kept .1 .0 ∙ (at-enum-told (c .before .before .before .before .before)) .size
 
 returns-2 : tie.Need-returns-2 Inv-loop μ-loop
 unfolding repeat-till repeating if_then_else_
-returns-2 c = halts _ (at-enum-told (c .before .before .before .before .before .before)) refl (not-stepped (c .before .before .before .before .contents-command .result) (c .before .match2 .keys2)) (runs (c .before .before .before .before .contents-command .ensures)) _ (c .counted .ensures)
+returns-2 c = let item = c .before .before .before .contents-item in halts _ (at-enum-told (c .before .before .before .before .before)) refl (unread-too (counted (item .result)) (not-counted (item .result) (c .match2 .keys2))) (runs (item .ensures .0)) 0 (as-before (counted (item .result)) (not-counted (item .result) (c .match2 .keys2)))
 
 add-k : tie.Need-add-k Inv-loop μ-loop
 add-k c = record { fits = omega (arith, c .before .before .before .before .before .before .before .before .before .before .before .before .loop .inv .1, (c .before .before .before .before .before .before .before .before .before .before .before .before .loop .inv .0 .way) .room .short, c .before .before .before .before .before .before .before .before .before .before .before .loop-test .taken) }
@@ -78,7 +90,7 @@ loop-less c = omega (arith, c .before .before .before .before .before .before .b
 
 loop-again : tie.Need-loop-again Inv-loop μ-loop
 unfolding repeat-till repeating if_then_else_
-loop-again c = (record { way = (at-item (c .before)); left = ap (λ n. repeating (contents-command (expression (c .before .before .before .before .before .before .before .before .before .before .before .before .before .before .before .args .mode) (c .before .before .before .before .before .before .before .before .before .before .before .before .before .before .before .args .left))) (word "}") (c .before .before .before .before .before .before .before .before .before .before .before .before .loop .turns - 1) n) (sym (add-one (c .before .before .before .before .before .before .before .before .before .before .before .before .loop .k))) }, omega (arith, c .before .before .before .before .before .before .before .before .before .before .before .before .loop .inv .1, c .before .before .before .before .before .before .before .before .before .before .before .loop-test .taken))
+loop-again c = (record { way = (at-item (c .before)); left = ap (λ n. repeating (contents-command (expression (c .before .before .before .before .before .before .before .before .before .before .before .before .before .before .before .args .mode) (c .before .before .before .before .before .before .before .before .before .before .before .before .before .before .before .args .left))) (word "}") (c .before .before .before .before .before .before .before .before .before .before .before .before .loop .turns - 1) n) (sym (add-one (c .before .before .before .before .before .before .before .before .before .before .before .before .loop .k))) }, omega (arith, c .before .before .before .before .before .before .before .before .before .before .before .before .loop .inv .1, c .before .before .before .before .before .before .before .before .before .before .before .loop-test .taken), subst (λ r. AloneFrom (expression (c .before .before .before .before .before .before .before .before .before .before .before .before .before .before .before .args .mode) (c .before .before .before .before .before .before .before .before .before .before .before .before .before .before .before .args .left)) (c .before .before .before .before .before .before .before .before .before .before .before .before .before .before .before .args .script .now) (counted r)) (c .before .item .given .1) (c .before .before .before .before .before .contents-item .ensures .1))
 
 same-length-3 : tie.Need-same-length-3 Inv-loop μ-loop
 same-length-3 c = (c .before .loop .inv .0 .way) .size
@@ -101,9 +113,8 @@ contents-spec =
     same-length
     returns
     (λ c. search needs)
-    contents-command-requires
+    contents-item-requires
     (λ c. search needs)
-    (λ c κs. search needs)
     same-length-2
     returns-2
     add-k

@@ -10,7 +10,7 @@ returns : tie.Need-returns
 returns c = rw (c .before .before .enum-told .given .1) (c .among .ensures)
 
 returns-2 : tie.Need-returns-2
-returns-2 c = rw (c .before .before .enum-told2 .given .1) (ap not (c .among2 .ensures))
+returns-2 c = rw (c .before .enum-told2 .given .1) (ap not (c .ends-token .ensures))
 
 returns-3 : tie.Need-returns-3
 returns-3 c = rw (c .enum-told3 .given .1)
@@ -25,7 +25,7 @@ returns-6 : tie.Need-returns-6
 returns-6 c = rw (c .before .enum-told6 .given .1) (c .is-identifier .ensures)
 
 returns-7 : tie.Need-returns-7
-returns-7 c = rw (c .before .before .enum-told7 .given .1) (ap not (c .among3 .ensures))
+returns-7 c = rw (c .before .before .enum-told7 .given .1) (ap not (c .among2 .ensures))
 
 pub holds-spec : {M : Type 1} → statement M
 holds-spec =
@@ -34,7 +34,6 @@ holds-spec =
     (λ c. search needs)
     (λ c. search needs)
     (λ c κs. search needs)
-    (λ c. search needs)
     (λ c. search needs)
     (λ c κs. search needs)
     (λ c. search needs)

@@ -1,0 +1,2 @@
+-- Laws of what is told with an item.
+pub mod Alone
