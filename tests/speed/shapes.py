@@ -35,14 +35,19 @@ def filled(head, piece, tail=""):
     return of
 
 
-def far(piece):
-    """Of a length: items that are tried as PROVIDE over a comment which ends half way on, where an expression follows that is not closed."""
+def halves(head, item, middle, piece, tail):
+    """Of a length: head and items up to half of it, then middle, pieces and tail."""
 
     def of(length):
-        items = filled("SECTIONS{a :{", "PROVIDE(a =/* )")(length // 2)
-        return items + filled("*/1", piece, " (a)}}")(length - len(items))
+        items = filled(head, item)(length // 2)
+        return items + filled(middle, piece, tail)(length - len(items))
 
     return of
+
+
+def far(piece, head="SECTIONS{a :{", item="PROVIDE(a =/* )", middle="*/1"):
+    """Items that are tried as PROVIDE over a comment which ends half way on, where an expression follows that is not closed."""
+    return halves(head, item, middle, piece, " (a)}}")
 
 
 CONTENTS = "SECTIONS{a :{"
@@ -74,10 +79,14 @@ SHAPES = {
     "segments": filled("PHDRS{", "a 1;", "}"),
     "flag clauses": filled("PHDRS{a 1 ", "FLAGS(1)", ";}"),
     "VERSION": filled("VERSION{", "a", "}"),
+    "CONSTRUCTORS in one token": filled(CONTENTS, "CONSTRUCTORS", "}}"),
+    "the same before a value": halves(CONTENTS, "CONSTRUCTORS", " = 1", "+1", "+}}"),
     "a comment that does not end": filled(CONTENTS, "PROVIDE(a =/* )", "}}"),
     "a line that does not end": filled(CONTENTS, "PROVIDE(a =#x )", "}}"),
     "a comment that ends far on": far("+1"),
     "the same before brackets": far("+" + "(" * 90 + "1" + ")" * 90),
+    "the same in a section each": far("+1", "SECTIONS{", "a :{PROVIDE(a =/* )}", "a :{*/1"),
+    "the same inside ASSERT": far("+1", CONTENTS, "PROVIDE(a =ASSERT(1,/* )", '*/"m")'),
 }
 
 if __name__ == "__main__":

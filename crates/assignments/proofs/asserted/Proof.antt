@@ -29,38 +29,8 @@ abbrev at-text : (c : tie.After-text) → Along (c .before .before .before .befo
 unfolding assert
 at-text c = earning _ assert-message-pays (at-value (c .before .before .before .before)) refl (known taken (c .before .before .message .ensures) (c .text .given .1))
 
-returns : tie.Need-returns
-unfolding assert
-returns c = lost-here _ (bytes _ (enter (assert-pays 50 (expression-pays (c .before .before .before .before .before .before .args .mode) (c .before .before .before .before .before .before .args .left))) (c .before .before .before .before .before .before .pre)) refl here-at) refl (known read (c .before .before .word-skip .ensures) (c .enum-told .given .1))
-
-expression-requires : tie.Need-expression-requires
-expression-requires c κs = (at-opened (c .before .before)) .room
-
-same-length : tie.Need-same-length
-same-length c = c .before .before .before .expression .kept .1 .0 ∙ (at-opened (c .before .before .before .before .before .before)) .size
-
-returns-2 : tie.Need-returns-2
-unfolding assert
-returns-2 c = halts _ (at-opened (c .before .before .before .before .before .before)) refl (not-stepped (c .before .before .before .expression .result) (c .match2 .keys2)) (runs (c .before .before .before .expression .ensures)) tt (as-it-is (stepped (c .before .before .before .expression .result)))
-
-same-length-2 : tie.Need-same-length-2
-same-length-2 c = (at-value (c .before .before .before .before)) .size
-
-returns-3 : tie.Need-returns-3
-unfolding assert
-returns-3 c = lost-here _ (at-value (c .before .before .before .before)) refl (known taken (c .before .before .message .ensures) (c .enum-told2 .given .1))
-
-push-requires : tie.Need-push-requires
-push-requires c κs = can-push (at-text (c .before .before))
-
-same-length-3 : tie.Need-same-length-3
-same-length-3 c = c .before .before .push .kept .0 ∙ (at-text (c .before .before .before .before .before)) .size
-
-returns-4 : tie.Need-returns-4
-unfolding assert
-returns-4 c = ends-here (at-text (c .before .before .before .before .before)) (added _ _ _ _ _ (c .before .before .push .ensures) (can-push (at-text (c .before .before .before .before .before))))
-
 pub asserted-spec : {M : Type 1} → statement M
+unfolding assert
 asserted-spec =
     tie.close
     (tie.spec
@@ -68,16 +38,16 @@ asserted-spec =
     (λ c κs. search needs)
     (λ c. search needs)
     (λ c. search needs)
-    returns
-    expression-requires
+    (λ c. lost-here _ (bytes _ (enter (assert-pays 50 (expression-pays (c .before .before .before .before .before .before .args .mode) (c .before .before .before .before .before .before .args .left))) (c .before .before .before .before .before .before .pre)) refl here-at) refl (known read (c .before .before .word-skip .ensures) (c .enum-told .given .1)))
+    (λ c κs. (at-opened (c .before .before)) .room)
     (λ c. search needs)
-    same-length
-    returns-2
+    (λ c. c .before .before .before .expression .kept .1 .0 ∙ (at-opened (c .before .before .before .before .before .before)) .size)
+    (λ c. halts _ (at-opened (c .before .before .before .before .before .before)) refl (not-stepped (c .before .before .before .expression .result) (c .match2 .keys2)) (runs (c .before .before .before .expression .ensures)) tt (as-it-is (stepped (c .before .before .before .expression .result))))
     (λ c κs. search needs)
     (λ c. search needs)
     (λ c. search needs)
-    same-length-2
-    returns-3
-    push-requires
-    same-length-3
-    returns-4)
+    (λ c. (at-value (c .before .before .before .before)) .size)
+    (λ c. lost-here _ (at-value (c .before .before .before .before)) refl (known taken (c .before .before .message .ensures) (c .enum-told2 .given .1)))
+    (λ c κs. can-push (at-text (c .before .before)))
+    (λ c. c .before .before .push .kept .0 ∙ (at-text (c .before .before .before .before .before)) .size)
+    (λ c. ends-here (at-text (c .before .before .before .before .before)) (added _ _ _ _ _ (c .before .before .push .ensures) (can-push (at-text (c .before .before .before .before .before))))))

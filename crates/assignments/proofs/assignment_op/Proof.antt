@@ -17,35 +17,8 @@ room c =
     let x = known operated (c .before .before .compound .ensures) (c .sign .given .1) in
     space (start .pre) (x .moved) (earned (λ f i. weaker (compound-pays f i)) x)
 
-returns : tie.Need-returns
-unfolding assignment-op-rule
-returns c =
-    let start = c .before .before .before .before .before .before in
-    met (λ f i. weaker (assignment-op-pays _ _ f i)) (start .pre) (second-run (stop _ (known operated (c .before .before .before .compound .ensures) (c .before .enum-told .given .1))) (as-read _ (c .plain .ensures)))
-
-push-requires : tie.Need-push-requires
-push-requires c κs = room (c .before .before .before)
-
-returns-2 : tie.Need-returns-2
-unfolding assignment-op-rule target
-returns-2 c =
-    let start = c .before .before .before .before .before .before .before .before .before .before .before in
-    let compound = c .before .before .before .before .before .before .before .before .compound in
-    let sign = c .before .before .before .before .before .before .sign in
-    met (λ f i. weaker (assignment-op-pays _ _ f i)) (start .pre) (first-run _ (bytes-then _ (known operated (compound .ensures) (sign .given .1)) (chosen-then _ _ _ (c .before .before .before .before .if1 .taken) (added-then _ _ _ _ _ (c .before .before .push .ensures) (room (c .before .before .before .before .before .before)) _ (as-bytes (given _))))))
-
-push-requires-2 : tie.Need-push-requires-2
-push-requires-2 c κs = room (c .before .before .before)
-
-returns-3 : tie.Need-returns-3
-unfolding assignment-op-rule target
-returns-3 c =
-    let start = c .before .before .before .before .before .before .before .before .before .before .before in
-    let compound = c .before .before .before .before .before .before .before .before .compound in
-    let sign = c .before .before .before .before .before .before .sign in
-    met (λ f i. weaker (assignment-op-pays _ _ f i)) (start .pre) (first-run _ (bytes-then _ (known operated (compound .ensures) (sign .given .1)) (other-then _ _ _ (c .before .before .before .before .if1 .left) (added-then _ _ _ _ _ (c .before .before .push2 .ensures) (room (c .before .before .before .before .before .before)) _ (as-bytes (given _))))))
-
 pub assignment-op-spec : {M : Type 1} → statement M
+unfolding assignment-op-rule target
 assignment-op-spec =
     tie.close
     (tie.spec
@@ -53,10 +26,10 @@ assignment-op-spec =
     (λ c. search needs)
     (λ c. search needs)
     (λ c κs. search needs)
-    returns
-    push-requires
+    (λ c. let start = c .before .before .before .before .before .before in met (λ f i. weaker (assignment-op-pays _ _ f i)) (start .pre) (second-run (stop _ (known operated (c .before .before .before .compound .ensures) (c .before .enum-told .given .1))) (as-read _ (c .plain .ensures))))
+    (λ c κs. room (c .before .before .before))
     (λ c. search needs)
-    returns-2
-    push-requires-2
+    (λ c. let start = c .before .before .before .before .before .before .before .before .before .before .before in let compound = c .before .before .before .before .before .before .before .before .compound in let sign = c .before .before .before .before .before .before .sign in met (λ f i. weaker (assignment-op-pays _ _ f i)) (start .pre) (first-run _ (bytes-then _ (known operated (compound .ensures) (sign .given .1)) (chosen-then _ _ _ (c .before .before .before .before .if1 .taken) (added-then _ _ _ _ _ (c .before .before .push .ensures) (room (c .before .before .before .before .before .before)) _ (as-bytes (given _)))))))
+    (λ c κs. room (c .before .before .before))
     (λ c. search needs)
-    returns-3)
+    (λ c. let start = c .before .before .before .before .before .before .before .before .before .before .before in let compound = c .before .before .before .before .before .before .before .before .compound in let sign = c .before .before .before .before .before .before .sign in met (λ f i. weaker (assignment-op-pays _ _ f i)) (start .pre) (first-run _ (bytes-then _ (known operated (compound .ensures) (sign .given .1)) (other-then _ _ _ (c .before .before .before .before .if1 .left) (added-then _ _ _ _ _ (c .before .before .push2 .ensures) (room (c .before .before .before .before .before .before)) _ (as-bytes (given _))))))))

@@ -34,51 +34,21 @@ abbrev at-if1-left : (c : tie.Else1) → Along (c .before .before .before .befor
 unfolding rule.expand
 at-if1-left c = where-not (at-value (c .before .before)) _ _ refl (ne-eqb _ _ (c .if1 .left))
 
-returns : tie.Need-returns
-unfolding rule.expand
-returns c = lost-here _ (enter-short (c .before .before .before .before .before .pre .0) (c .before .before .before .before .before .pre .1)) refl (known read (c .before .before .skip .ensures) (c .enum-told .given .1))
-
-expression-requires : tie.Need-expression-requires
-expression-requires c κs = (at-skipped (c .before .before)) .room
-
-same-length : tie.Need-same-length
-same-length c = c .before .before .before .expression .kept .1 .0 ∙ (at-skipped (c .before .before .before .before .before .before)) .size
-
-returns-2 : tie.Need-returns-2
-unfolding rule.expand
-returns-2 c = halts _ (at-skipped (c .before .before .before .before .before .before)) refl (not-stepped (c .before .before .before .expression .result) (c .match2 .keys2)) (runs (c .before .before .before .expression .ensures)) tt (as-it-is (stepped (c .before .before .before .expression .result)))
-
-same-length-2 : tie.Need-same-length-2
-same-length-2 c = (at-if1 c) .size
-
-returns-3 : tie.Need-returns-3
-unfolding rule.expand
-returns-3 c = ends-here (at-if1 c) (as-bytes (given _))
-
-push-requires : tie.Need-push-requires
-push-requires c κs = can-push (at-if1-left (c .before))
-
-same-length-3 : tie.Need-same-length-3
-same-length-3 c = c .before .before .push .kept .0 ∙ (at-if1-left (c .before .before .before .before)) .size
-
-returns-4 : tie.Need-returns-4
-unfolding rule.expand
-returns-4 c = ends-here (at-if1-left (c .before .before .before .before)) (added _ _ _ _ _ (c .before .before .push .ensures) (can-push (at-if1-left (c .before .before .before .before))))
-
 pub expand-spec : {M : Type 1} → statement M
+unfolding rule.expand
 expand-spec =
     tie.close
     (tie.spec
     (λ c κs. search needs)
     (λ c. search needs)
     (λ c. search needs)
-    returns
-    expression-requires
+    (λ c. lost-here _ (enter-short (c .before .before .before .before .before .pre .0) (c .before .before .before .before .before .pre .1)) refl (known read (c .before .before .skip .ensures) (c .enum-told .given .1)))
+    (λ c κs. (at-skipped (c .before .before)) .room)
     (λ c. search needs)
-    same-length
-    returns-2
-    same-length-2
-    returns-3
-    push-requires
-    same-length-3
-    returns-4)
+    (λ c. c .before .before .before .expression .kept .1 .0 ∙ (at-skipped (c .before .before .before .before .before .before)) .size)
+    (λ c. halts _ (at-skipped (c .before .before .before .before .before .before)) refl (not-stepped (c .before .before .before .expression .result) (c .match2 .keys2)) (runs (c .before .before .before .expression .ensures)) tt (as-it-is (stepped (c .before .before .before .expression .result))))
+    (λ c. (at-if1 c) .size)
+    (λ c. ends-here (at-if1 c) (as-bytes (given _)))
+    (λ c κs. can-push (at-if1-left (c .before)))
+    (λ c. c .before .before .push .kept .0 ∙ (at-if1-left (c .before .before .before .before)) .size)
+    (λ c. ends-here (at-if1-left (c .before .before .before .before)) (added _ _ _ _ _ (c .before .before .push .ensures) (can-push (at-if1-left (c .before .before .before .before))))))

@@ -7,33 +7,8 @@ use Rattle.lex.proofs.Lexes.{known, then-on, stop, given, not-tag-read, not-tag
 use Rattle.assignments.proofs.plain.Statement.{statement}
 use Rattle.assignments.proofs.plain.Tie as tie
 
-returns : tie.Need-returns
-unfolding plain-rule
-returns c = stop _ (known read (c .before .before .word .ensures) (c .enum-told .given .1))
-
-returns-2 : tie.Need-returns-2
-unfolding plain-rule
-returns-2 c =
-    let word = c .before .before .before .before .before .before .word in
-    then-on _ (known read (word .ensures) (c .before .before .before .before .sign .given .1)) (stop _ (not-tag-lost _ (sym (c .before .starts .ensures) ∙ c .if1 .taken)))
-
-returns-3 : tie.Need-returns-3
-unfolding plain-rule
-returns-3 c =
-    let word = c .before .before .before .before .before .before .before .before .before .word in
-    let sign = c .before .before .before .before .before .before .before .sign in
-    let starts = c .before .before .before .before .starts in
-    then-on _ (known read (word .ensures) (sign .given .1)) (then-on _ (not-tag-read _ (sym (starts .ensures) ∙ c .before .before .before .if1 .left)) (stop _ (not-tag-lost _ (sym (c .before .starts2 .ensures) ∙ c .if2 .taken))))
-
-returns-4 : tie.Need-returns-4
-unfolding plain-rule
-returns-4 c =
-    let word = c .before .before .before .before .before .before .before .before .before .word in
-    let sign = c .before .before .before .before .before .before .before .sign in
-    let starts = c .before .before .before .before .starts in
-    then-on _ (known read (word .ensures) (sign .given .1)) (then-on _ (not-tag-read _ (sym (starts .ensures) ∙ c .before .before .before .if1 .left)) (then-on _ (not-tag-read _ (sym (c .before .starts2 .ensures) ∙ c .if2 .left)) (given 0)))
-
 pub plain-spec : {M : Type 1} → statement M
+unfolding plain-rule
 plain-spec =
     tie.close
     (tie.spec
@@ -41,11 +16,11 @@ plain-spec =
     (λ c κs. search needs)
     (λ c. search needs)
     (λ c. search needs)
-    returns
+    (λ c. stop _ (known read (c .before .before .word .ensures) (c .enum-told .given .1)))
     (λ c. search needs)
     (λ c κs. search needs)
-    returns-2
+    (λ c. let word = c .before .before .before .before .before .before .word in then-on _ (known read (word .ensures) (c .before .before .before .before .sign .given .1)) (stop _ (not-tag-lost _ (sym (c .before .starts .ensures) ∙ c .if1 .taken))))
     (λ c. search needs)
     (λ c κs. search needs)
-    returns-3
-    returns-4)
+    (λ c. let word = c .before .before .before .before .before .before .before .before .before .word in let sign = c .before .before .before .before .before .before .before .sign in let starts = c .before .before .before .before .starts in then-on _ (known read (word .ensures) (sign .given .1)) (then-on _ (not-tag-read _ (sym (starts .ensures) ∙ c .before .before .before .if1 .left)) (stop _ (not-tag-lost _ (sym (c .before .starts2 .ensures) ∙ c .if2 .taken)))))
+    (λ c. let word = c .before .before .before .before .before .before .before .before .before .word in let sign = c .before .before .before .before .before .before .before .sign in let starts = c .before .before .before .before .starts in then-on _ (known read (word .ensures) (sign .given .1)) (then-on _ (not-tag-read _ (sym (starts .ensures) ∙ c .before .before .before .if1 .left)) (then-on _ (not-tag-read _ (sym (c .before .starts2 .ensures) ∙ c .if2 .left)) (given 0)))))

@@ -44,53 +44,8 @@ abbrev at-ended : (c : tie.After-ended) → Along (c .before .before .before .be
 unfolding rule.provide
 at-ended c = bytes _ (at-closed (c .before .before .before .before .before)) refl (known read (c .before .before .opt-word-skip .ensures) (c .ended .given .1))
 
-returns : tie.Need-returns
-unfolding rule.provide
-returns c = lost-here _ (enter (provide-pays (expression-pays (c .before .before .before .before .before .before .args .mode) (c .before .before .before .before .before .before .args .left)) (c .before .before .before .before .before .before .args .hidden)) (c .before .before .before .before .before .before .pre)) refl (known read (c .before .before .word-skip .ensures) (c .enum-told .given .1))
-
-returns-2 : tie.Need-returns-2
-unfolding rule.provide
-returns-2 c = lost-here _ (at-opened (c .before .before .before .before)) refl (known taken (c .before .before .token .ensures) (c .enum-told2 .given .1))
-
-returns-3 : tie.Need-returns-3
-unfolding rule.provide
-returns-3 c = lost-here _ (at-name (c .before .before .before .before .before)) refl (known read (c .before .before .skip-word-skip .ensures) (c .enum-told3 .given .1))
-
-expression-requires : tie.Need-expression-requires
-expression-requires c κs = (at-equals (c .before .before)) .room
-
-same-length : tie.Need-same-length
-same-length c = c .before .before .before .expression .kept .1 .0 ∙ (at-equals (c .before .before .before .before .before .before)) .size
-
-returns-4 : tie.Need-returns-4
-unfolding rule.provide
-returns-4 c = halts _ (at-equals (c .before .before .before .before .before .before)) refl (not-stepped (c .before .before .before .expression .result) (c .match4 .keys2)) (runs (c .before .before .before .expression .ensures)) tt (as-it-is (stepped (c .before .before .before .expression .result)))
-
-same-length-2 : tie.Need-same-length-2
-same-length-2 c = (at-value (c .before .before .before .before .before)) .size
-
-returns-5 : tie.Need-returns-5
-unfolding rule.provide
-returns-5 c = lost-here _ (at-value (c .before .before .before .before .before)) refl (known read (c .before .before .skip-word-skip2 .ensures) (c .enum-told4 .given .1))
-
-same-length-3 : tie.Need-same-length-3
-same-length-3 c = (at-closed (c .before .before .before .before .before)) .size
-
-returns-6 : tie.Need-returns-6
-unfolding rule.provide
-returns-6 c = lost-here _ (at-closed (c .before .before .before .before .before)) refl (known read (c .before .before .opt-word-skip .ensures) (c .enum-told5 .given .1))
-
-push-requires : tie.Need-push-requires
-push-requires c κs = can-push (at-ended (c .before .before))
-
-same-length-4 : tie.Need-same-length-4
-same-length-4 c = c .before .before .push .kept .0 ∙ (at-ended (c .before .before .before .before .before)) .size
-
-returns-7 : tie.Need-returns-7
-unfolding rule.provide
-returns-7 c = ends-here (at-ended (c .before .before .before .before .before)) (added _ _ _ _ _ (c .before .before .push .ensures) (can-push (at-ended (c .before .before .before .before .before))))
-
 pub provide-spec : {M : Type 1} → statement M
+unfolding rule.provide
 provide-spec =
     tie.close
     (tie.spec
@@ -98,32 +53,32 @@ provide-spec =
     (λ c κs. search needs)
     (λ c. search needs)
     (λ c. search needs)
-    returns
+    (λ c. lost-here _ (enter (provide-pays (expression-pays (c .before .before .before .before .before .before .args .mode) (c .before .before .before .before .before .before .args .left)) (c .before .before .before .before .before .before .args .hidden)) (c .before .before .before .before .before .before .pre)) refl (known read (c .before .before .word-skip .ensures) (c .enum-told .given .1)))
     (λ c κs. search needs)
     (λ c. search needs)
     (λ c. search needs)
-    returns-2
-    (λ c. search needs)
-    (λ c κs. search needs)
-    (λ c. search needs)
-    (λ c. search needs)
-    returns-3
-    expression-requires
-    (λ c. search needs)
-    same-length
-    returns-4
+    (λ c. lost-here _ (at-opened (c .before .before .before .before)) refl (known taken (c .before .before .token .ensures) (c .enum-told2 .given .1)))
     (λ c. search needs)
     (λ c κs. search needs)
     (λ c. search needs)
     (λ c. search needs)
-    same-length-2
-    returns-5
+    (λ c. lost-here _ (at-name (c .before .before .before .before .before)) refl (known read (c .before .before .skip-word-skip .ensures) (c .enum-told3 .given .1)))
+    (λ c κs. (at-equals (c .before .before)) .room)
+    (λ c. search needs)
+    (λ c. c .before .before .before .expression .kept .1 .0 ∙ (at-equals (c .before .before .before .before .before .before)) .size)
+    (λ c. halts _ (at-equals (c .before .before .before .before .before .before)) refl (not-stepped (c .before .before .before .expression .result) (c .match4 .keys2)) (runs (c .before .before .before .expression .ensures)) tt (as-it-is (stepped (c .before .before .before .expression .result))))
     (λ c. search needs)
     (λ c κs. search needs)
     (λ c. search needs)
     (λ c. search needs)
-    same-length-3
-    returns-6
-    push-requires
-    same-length-4
-    returns-7)
+    (λ c. (at-value (c .before .before .before .before .before)) .size)
+    (λ c. lost-here _ (at-value (c .before .before .before .before .before)) refl (known read (c .before .before .skip-word-skip2 .ensures) (c .enum-told4 .given .1)))
+    (λ c. search needs)
+    (λ c κs. search needs)
+    (λ c. search needs)
+    (λ c. search needs)
+    (λ c. (at-closed (c .before .before .before .before .before)) .size)
+    (λ c. lost-here _ (at-closed (c .before .before .before .before .before)) refl (known read (c .before .before .opt-word-skip .ensures) (c .enum-told5 .given .1)))
+    (λ c κs. can-push (at-ended (c .before .before)))
+    (λ c. c .before .before .push .kept .0 ∙ (at-ended (c .before .before .before .before .before)) .size)
+    (λ c. ends-here (at-ended (c .before .before .before .before .before)) (added _ _ _ _ _ (c .before .before .push .ensures) (can-push (at-ended (c .before .before .before .before .before))))))

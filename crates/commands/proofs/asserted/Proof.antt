@@ -23,43 +23,20 @@ abbrev at-told : (c : tie.After-told) → Along (c .before .before .before .befo
 unfolding rule.asserted
 at-told c = called _ (enter (asserted-pays (expression-pays (c .before .before .before .before .before .before .before .before .args .mode) (c .before .before .before .before .before .before .before .before .args .left))) (c .before .before .before .before .before .before .before .before .pre)) refl (known-read stepped (c .before .before .before .before .asserted .ensures) (c .told .given .1)) (c .before .before .before .before .asserted .kept .1 .0)
 
-asserted-requires : tie.Need-asserted-requires
-asserted-requires c κs = (enter (asserted-pays (expression-pays (c .before .before .before .args .mode) (c .before .before .before .args .left))) (c .before .before .before .pre)) .room
-
-same-length : tie.Need-same-length
-same-length c = c .before .before .before .asserted .kept .1 .0 ∙ (enter (asserted-pays (expression-pays (c .before .before .before .before .before .before .before .args .mode) (c .before .before .before .before .before .before .before .args .left))) (c .before .before .before .before .before .before .before .pre)) .size
-
-returns : tie.Need-returns
-unfolding rule.asserted
-returns c = halts _ (enter (asserted-pays (expression-pays (c .before .before .before .before .before .before .before .args .mode) (c .before .before .before .before .before .before .before .args .left))) (c .before .before .before .before .before .before .before .pre)) refl (not-stepped (c .before .before .before .asserted .result) (c .match .keys2)) (runs (c .before .before .before .asserted .ensures)) tt (as-it-is (stepped (c .before .before .before .asserted .result)))
-
-same-length-2 : tie.Need-same-length-2
-same-length-2 c = (at-told (c .before .before .before .before .before)) .size
-
-returns-2 : tie.Need-returns-2
-unfolding rule.asserted
-returns-2 c = ends-here (at-told (c .before .before .before .before .before)) (as-lost (known read (c .before .before .opt-word-skip .ensures) (c .enum-told .given .1)))
-
-same-length-3 : tie.Need-same-length-3
-same-length-3 c = (at-told (c .before .before .before .before .before .before)) .size
-
-returns-3 : tie.Need-returns-3
-unfolding rule.asserted
-returns-3 c = ends-here (at-told (c .before .before .before .before .before .before)) (as-bytes (known read (c .before .before .before .opt-word-skip .ensures) (c .before .ended .given .1)))
-
 pub asserted-spec : {M : Type 1} → statement M
+unfolding rule.asserted
 asserted-spec =
     tie.close
     (tie.spec
-    asserted-requires
+    (λ c κs. (enter (asserted-pays (expression-pays (c .before .before .before .args .mode) (c .before .before .before .args .left))) (c .before .before .before .pre)) .room)
     (λ c. search needs)
-    same-length
-    returns
+    (λ c. c .before .before .before .asserted .kept .1 .0 ∙ (enter (asserted-pays (expression-pays (c .before .before .before .before .before .before .before .args .mode) (c .before .before .before .before .before .before .before .args .left))) (c .before .before .before .before .before .before .before .pre)) .size)
+    (λ c. halts _ (enter (asserted-pays (expression-pays (c .before .before .before .before .before .before .before .args .mode) (c .before .before .before .before .before .before .before .args .left))) (c .before .before .before .before .before .before .before .pre)) refl (not-stepped (c .before .before .before .asserted .result) (c .match .keys2)) (runs (c .before .before .before .asserted .ensures)) tt (as-it-is (stepped (c .before .before .before .asserted .result))))
     (λ c. search needs)
     (λ c κs. search needs)
     (λ c. search needs)
     (λ c. search needs)
-    same-length-2
-    returns-2
-    same-length-3
-    returns-3)
+    (λ c. (at-told (c .before .before .before .before .before)) .size)
+    (λ c. ends-here (at-told (c .before .before .before .before .before)) (as-lost (known read (c .before .before .opt-word-skip .ensures) (c .enum-told .given .1))))
+    (λ c. (at-told (c .before .before .before .before .before .before)) .size)
+    (λ c. ends-here (at-told (c .before .before .before .before .before .before)) (as-bytes (known read (c .before .before .before .opt-word-skip .ensures) (c .before .ended .given .1)))))

@@ -40,38 +40,8 @@ abbrev at-kind-of : (c : tie.After-kind-of) → Along (c .before .before .before
 unfolding rule.braced
 at-kind-of c = same-as (at-skipped (c .before .before)) (ap (λ n. add n (c .before .before .before .before .before .before .list .given .0 .0) 0 0 0) (sym (c .kind-of .ensures)))
 
-returns : tie.Need-returns
-unfolding rule.braced
-returns c = lost-here _ (enter (braced-pays (expression-pays (c .before .before .before .before .before .before .args .mode) (c .before .before .before .before .before .before .args .left)) (c .before .before .before .before .before .before .args .which)) (c .before .before .before .before .before .before .pre)) refl (known read (c .before .before .word-skip .ensures) (c .enum-told .given .1))
-
-items-requires : tie.Need-items-requires
-items-requires c κs = (at-opened (c .before .before)) .room
-
-same-length : tie.Need-same-length
-same-length c = c .before .before .before .before .items .kept .1 .0 ∙ (at-opened (c .before .before .before .before .before .before .before)) .size
-
-returns-2 : tie.Need-returns-2
-unfolding rule.braced
-returns-2 c = halts _ (at-opened (c .before .before .before .before .before .before .before)) refl (not-counted (c .before .before .before .before .items .result) (c .before .match2 .keys2)) (runs (c .before .before .before .before .items .ensures)) _ (c .step .ensures)
-
-same-length-2 : tie.Need-same-length-2
-same-length-2 c = (at-list (c .before .before .before .before)) .size
-
-returns-3 : tie.Need-returns-3
-unfolding rule.braced
-returns-3 c = lost-here _ (at-list (c .before .before .before .before)) refl (known read (c .before .before .skip .ensures) (c .enum-told2 .given .1))
-
-push-requires : tie.Need-push-requires
-push-requires c κs = can-push (at-kind-of (c .before))
-
-same-length-3 : tie.Need-same-length-3
-same-length-3 c = c .before .before .push .kept .0 ∙ (at-kind-of (c .before .before .before .before)) .size
-
-returns-4 : tie.Need-returns-4
-unfolding rule.braced
-returns-4 c = ends-here (at-kind-of (c .before .before .before .before)) (added _ _ _ _ _ (c .before .before .push .ensures) (can-push (at-kind-of (c .before .before .before .before))))
-
 pub braced-spec : {M : Type 1} → statement M
+unfolding rule.braced
 braced-spec =
     tie.close
     (tie.spec
@@ -79,18 +49,18 @@ braced-spec =
     (λ c κs. search needs)
     (λ c. search needs)
     (λ c. search needs)
-    returns
-    items-requires
+    (λ c. lost-here _ (enter (braced-pays (expression-pays (c .before .before .before .before .before .before .args .mode) (c .before .before .before .before .before .before .args .left)) (c .before .before .before .before .before .before .args .which)) (c .before .before .before .before .before .before .pre)) refl (known read (c .before .before .word-skip .ensures) (c .enum-told .given .1)))
+    (λ c κs. (at-opened (c .before .before)) .room)
     (λ c. search needs)
     (λ c κs. search needs)
-    same-length
-    returns-2
+    (λ c. c .before .before .before .before .items .kept .1 .0 ∙ (at-opened (c .before .before .before .before .before .before .before)) .size)
+    (λ c. halts _ (at-opened (c .before .before .before .before .before .before .before)) refl (not-counted (c .before .before .before .before .items .result) (c .before .match2 .keys2)) (runs (c .before .before .before .before .items .ensures)) _ (c .step .ensures))
     (λ c κs. search needs)
     (λ c. search needs)
     (λ c. search needs)
-    same-length-2
-    returns-3
+    (λ c. (at-list (c .before .before .before .before)) .size)
+    (λ c. lost-here _ (at-list (c .before .before .before .before)) refl (known read (c .before .before .skip .ensures) (c .enum-told2 .given .1)))
     (λ c κs. search needs)
-    push-requires
-    same-length-3
-    returns-4)
+    (λ c κs. can-push (at-kind-of (c .before)))
+    (λ c. c .before .before .push .kept .0 ∙ (at-kind-of (c .before .before .before .before)) .size)
+    (λ c. ends-here (at-kind-of (c .before .before .before .before)) (added _ _ _ _ _ (c .before .before .push .ensures) (can-push (at-kind-of (c .before .before .before .before))))))

@@ -32,48 +32,22 @@ abbrev at-opt-word : (c : tie.After-opt-word) → Along (c .before .before .befo
 unfolding rule.definition
 at-opt-word c = bytes _ (at-skipped (c .before .before .before .before)) refl (c .opt-word .ensures)
 
-expand-requires : tie.Need-expand-requires
-expand-requires c κs = ((c .before .before .before .pre .0), omega (arith, c .before .before .before .pre .1))
-
-same-length : tie.Need-same-length
-same-length c = c .before .before .before .expand .kept .1 .0
-
-returns : tie.Need-returns
-unfolding rule.definition
-returns c = halts _ (enter-short (c .before .before .before .before .before .before .before .pre .0) (c .before .before .before .before .before .before .before .pre .1)) refl (not-stepped (c .before .before .before .expand .result) (c .match .keys2)) (c .before .before .before .expand .ensures) tt (as-it-is (stepped (c .before .before .before .expand .result)))
-
-same-length-2 : tie.Need-same-length-2
-same-length-2 c = (at-value (c .before .before .before .before)) .size
-
-returns-2 : tie.Need-returns-2
-unfolding rule.definition
-returns-2 c = lost-here _ (at-value (c .before .before .before .before)) refl (known read (c .before .before .skip .ensures) (c .enum-told .given .1))
-
-assigned-requires : tie.Need-assigned-requires
-assigned-requires c κs = ((at-opt-word c) .room, omega (arith, (at-opt-word c) .spare))
-
-same-length-3 : tie.Need-same-length-3
-same-length-3 c = c .before .before .assigned .kept .1 .0 ∙ (at-opt-word (c .before .before .before)) .size
-
-returns-3 : tie.Need-returns-3
-unfolding rule.definition
-returns-3 c = ends-here (at-opt-word (c .before .before .before)) (c .before .before .assigned .ensures)
-
 pub definition-spec : {M : Type 1} → statement M
+unfolding rule.definition
 definition-spec =
     tie.close
     (tie.spec
-    expand-requires
+    (λ c κs. ((c .before .before .before .pre .0), omega (arith, c .before .before .before .pre .1)))
     (λ c. search needs)
-    same-length
-    returns
+    (λ c. c .before .before .before .expand .kept .1 .0)
+    (λ c. halts _ (enter-short (c .before .before .before .before .before .before .before .pre .0) (c .before .before .before .before .before .before .before .pre .1)) refl (not-stepped (c .before .before .before .expand .result) (c .match .keys2)) (c .before .before .before .expand .ensures) tt (as-it-is (stepped (c .before .before .before .expand .result))))
     (λ c κs. search needs)
     (λ c. search needs)
     (λ c. search needs)
-    same-length-2
-    returns-2
+    (λ c. (at-value (c .before .before .before .before)) .size)
+    (λ c. lost-here _ (at-value (c .before .before .before .before)) refl (known read (c .before .before .skip .ensures) (c .enum-told .given .1)))
     (λ c. search needs)
     (λ c κs. search needs)
-    assigned-requires
-    same-length-3
-    returns-3)
+    (λ c κs. ((at-opt-word c) .room, omega (arith, (at-opt-word c) .spare)))
+    (λ c. c .before .before .assigned .kept .1 .0 ∙ (at-opt-word (c .before .before .before)) .size)
+    (λ c. ends-here (at-opt-word (c .before .before .before)) (c .before .before .assigned .ensures)))

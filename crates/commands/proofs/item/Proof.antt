@@ -4,15 +4,6 @@ use borrow.Author.Needs.{needs}
 use Rattle.commands.proofs.item.Statement.{statement}
 use Rattle.commands.proofs.item.Tie as tie
 
-returns : tie.Need-returns
-returns c = rw (c .before .before .before .before .enum-told .given .1) (c .before .before .section-command .ensures)
-
-returns-2 : tie.Need-returns-2
-returns-2 c = rw (c .before .before .before .before .enum-told2 .given .1) (c .before .before .memory-region .ensures)
-
-returns-3 : tie.Need-returns-3
-returns-3 c = rw (c .before .before .before .before .enum-told3 .given .1) (c .before .before .phdr .ensures)
-
 pub item-spec : {M : Type 1} → statement M
 item-spec =
     tie.close
@@ -24,8 +15,8 @@ item-spec =
     (λ c. search needs)
     (λ c κs. search needs)
     (λ c. search needs)
-    returns
+    (λ c. rw (c .before .before .before .before .enum-told .given .1) (c .before .before .section-command .ensures))
     (λ c. search needs)
-    returns-2
+    (λ c. rw (c .before .before .before .before .enum-told2 .given .1) (c .before .before .memory-region .ensures))
     (λ c. search needs)
-    returns-3)
+    (λ c. rw (c .before .before .before .before .enum-told3 .given .1) (c .before .before .phdr .ensures)))

@@ -46,69 +46,29 @@ abbrev at-one : (c : tie.After-one Inv-loop μ-loop) → Along (c .before .befor
 unfolding repeat-till repeating if_then_else_
 at-one c = called _ (at-enum-told (c .before .before .before .before .before .before)) refl (known-read stepped (c .before .before .before .before .item .ensures) (c .one .given .1)) (c .before .before .before .before .item .kept .1 .0)
 
-loop-holds : tie.Need-loop-holds Inv-loop μ-loop
-unfolding repeat-till repeating if_then_else_
-loop-holds c = (record { way = bytes _ (enter (λ f i. repeats (item-pays (expression-pays (c .before .before .args .mode) (c .before .before .args .left)) (c .before .before .args .which) f i) (over _)) (c .before .before .pre)) refl sized; left = ap (λ n. repeating (rule.item (expression (c .before .before .args .mode) (c .before .before .args .left)) (c .before .before .args .which)) (word "}") n 0) (sym (add-one (length (c .before .before .args .script .now)))) }, omega arith)
-
-same-length : tie.Need-same-length Inv-loop μ-loop
-same-length c = (at-end (c .before)) .size
-
-returns : tie.Need-returns Inv-loop μ-loop
-unfolding repeat-till repeating if_then_else_
-returns c = ends-here (at-end (c .before)) (as-bytes (given _))
-
-item-requires : tie.Need-item-requires Inv-loop μ-loop
-item-requires c κs = (at-enum-told (c .before)) .room
-
-same-length-2 : tie.Need-same-length-2 Inv-loop μ-loop
-same-length-2 c = c .before .before .before .before .item .kept .1 .0 ∙ (at-enum-told (c .before .before .before .before .before .before)) .size
-
-returns-2 : tie.Need-returns-2 Inv-loop μ-loop
-unfolding repeat-till repeating if_then_else_
-returns-2 c = halts _ (at-enum-told (c .before .before .before .before .before .before)) refl (not-stepped (c .before .before .before .before .item .result) (c .before .match2 .keys2)) (runs (c .before .before .before .before .item .ensures)) _ (c .counted .ensures)
-
-add-k : tie.Need-add-k Inv-loop μ-loop
-add-k c = record { fits = omega (arith, c .before .before .before .before .before .before .before .before .before .before .before .before .loop .inv .1, (c .before .before .before .before .before .before .before .before .before .before .before .before .loop .inv .0 .way) .room .short, c .before .before .before .before .before .before .before .before .before .before .before .loop-test .taken) }
-
-sub-turns : tie.Need-sub-turns Inv-loop μ-loop
-sub-turns c = omega (arith, c .before .before .before .before .before .before .before .before .before .before .before .loop-test .taken)
-
-loop-less : tie.Need-loop-less Inv-loop μ-loop
-loop-less c = omega (arith, c .before .before .before .before .before .before .before .before .before .before .before .loop-test .taken)
-
-loop-again : tie.Need-loop-again Inv-loop μ-loop
-unfolding repeat-till repeating if_then_else_
-loop-again c = (record { way = (at-one (c .before)); left = ap (λ n. repeating (rule.item (expression (c .before .before .before .before .before .before .before .before .before .before .before .before .before .before .before .args .mode) (c .before .before .before .before .before .before .before .before .before .before .before .before .before .before .before .args .left)) (c .before .before .before .before .before .before .before .before .before .before .before .before .before .before .before .args .which)) (word "}") (c .before .before .before .before .before .before .before .before .before .before .before .before .loop .turns - 1) n) (sym (add-one (c .before .before .before .before .before .before .before .before .before .before .before .before .loop .k))) }, omega (arith, c .before .before .before .before .before .before .before .before .before .before .before .before .loop .inv .1, c .before .before .before .before .before .before .before .before .before .before .before .loop-test .taken))
-
-same-length-3 : tie.Need-same-length-3 Inv-loop μ-loop
-same-length-3 c = (c .before .loop .inv .0 .way) .size
-
-returns-3 : tie.Need-returns-3 Inv-loop μ-loop
-unfolding repeat-till repeating if_then_else_
-returns-3 c = spent (c .before .loop .inv .0 .way) (λ n. repeating (rule.item (expression (c .before .before .before .before .args .mode) (c .before .before .before .before .args .left)) (c .before .before .before .before .args .which)) (word "}") n (c .before .loop .k)) (c .before .loop .inv .0 .left) (c .loop-test .left) (as-lost refused)
-
 pub items-spec : {M : Type 1} → statement M
+unfolding repeat-till repeating if_then_else_
 items-spec =
     tie.close
     (tie.spec
     Inv-loop
     μ-loop
     (λ c. search needs)
-    loop-holds
+    (λ c. (record { way = bytes _ (enter (λ f i. repeats (item-pays (expression-pays (c .before .before .args .mode) (c .before .before .args .left)) (c .before .before .args .which) f i) (over _)) (c .before .before .pre)) refl sized; left = ap (λ n. repeating (rule.item (expression (c .before .before .args .mode) (c .before .before .args .left)) (c .before .before .args .which)) (word "}") n 0) (sym (add-one (length (c .before .before .args .script .now)))) }, omega arith))
     (λ c. search needs)
     (λ c κs. search needs)
     (λ c. search needs)
-    same-length
-    returns
+    (λ c. (at-end (c .before)) .size)
+    (λ c. ends-here (at-end (c .before)) (as-bytes (given _)))
     (λ c. search needs)
-    item-requires
+    (λ c κs. (at-enum-told (c .before)) .room)
     (λ c. search needs)
     (λ c κs. search needs)
-    same-length-2
-    returns-2
-    add-k
-    sub-turns
-    loop-less
-    loop-again
-    same-length-3
-    returns-3)
+    (λ c. c .before .before .before .before .item .kept .1 .0 ∙ (at-enum-told (c .before .before .before .before .before .before)) .size)
+    (λ c. halts _ (at-enum-told (c .before .before .before .before .before .before)) refl (not-stepped (c .before .before .before .before .item .result) (c .before .match2 .keys2)) (runs (c .before .before .before .before .item .ensures)) _ (c .counted .ensures))
+    (λ c. record { fits = omega (arith, c .before .before .before .before .before .before .before .before .before .before .before .before .loop .inv .1, (c .before .before .before .before .before .before .before .before .before .before .before .before .loop .inv .0 .way) .room .short, c .before .before .before .before .before .before .before .before .before .before .before .loop-test .taken) })
+    (λ c. omega (arith, c .before .before .before .before .before .before .before .before .before .before .before .loop-test .taken))
+    (λ c. omega (arith, c .before .before .before .before .before .before .before .before .before .before .before .loop-test .taken))
+    (λ c. (record { way = (at-one (c .before)); left = ap (λ n. repeating (rule.item (expression (c .before .before .before .before .before .before .before .before .before .before .before .before .before .before .before .args .mode) (c .before .before .before .before .before .before .before .before .before .before .before .before .before .before .before .args .left)) (c .before .before .before .before .before .before .before .before .before .before .before .before .before .before .before .args .which)) (word "}") (c .before .before .before .before .before .before .before .before .before .before .before .before .loop .turns - 1) n) (sym (add-one (c .before .before .before .before .before .before .before .before .before .before .before .before .loop .k))) }, omega (arith, c .before .before .before .before .before .before .before .before .before .before .before .before .loop .inv .1, c .before .before .before .before .before .before .before .before .before .before .before .loop-test .taken)))
+    (λ c. (c .before .loop .inv .0 .way) .size)
+    (λ c. spent (c .before .loop .inv .0 .way) (λ n. repeating (rule.item (expression (c .before .before .before .before .args .mode) (c .before .before .before .before .args .left)) (c .before .before .before .before .args .which)) (word "}") n (c .before .loop .k)) (c .before .loop .inv .0 .left) (c .loop-test .left) (as-lost refused)))

@@ -27,39 +27,17 @@ abbrev at-sign : (c : tie.After-sign) → Along (c .before .before .before .befo
 unfolding rule.other perhaps
 at-sign c = gained-opt _ (assignment-op-pays _ _) (enter-short (c .before .before .before .before .before .before .before .before .pre .0) (c .before .before .before .before .before .before .before .before .pre .1)) refl (known-read operated (c .before .before .before .before .assignment-op .ensures) (c .sign .given .1)) (c .before .before .before .before .assignment-op .kept .1 .0)
 
-assignment-op-requires : tie.Need-assignment-op-requires
-assignment-op-requires c κs = (c .before .before .before .pre .0)
-
-push-requires : tie.Need-push-requires
-push-requires c κs = can-push (at-enum-told (c .before))
-
-same-length : tie.Need-same-length
-same-length c = c .before .before .push .kept .0 ∙ (at-enum-told (c .before .before .before .before)) .size
-
-returns : tie.Need-returns
-unfolding rule.other perhaps
-returns c = ends-here (at-enum-told (c .before .before .before .before)) (added _ _ _ _ _ (c .before .before .push .ensures) (can-push (at-enum-told (c .before .before .before .before))))
-
-definition-requires : tie.Need-definition-requires
-definition-requires c κs = ((at-sign (c .before .before)) .room, omega (arith, (at-sign (c .before .before)) .spare))
-
-same-length-2 : tie.Need-same-length-2
-same-length-2 c = c .before .before .definition .kept .1 .0 ∙ (at-sign (c .before .before .before .before .before)) .size
-
-returns-2 : tie.Need-returns-2
-unfolding rule.other perhaps
-returns-2 c = ends-here (at-sign (c .before .before .before .before .before)) (c .before .before .definition .ensures)
-
 pub other-spec : {M : Type 1} → statement M
+unfolding rule.other perhaps
 other-spec =
     tie.close
     (tie.spec
-    assignment-op-requires
+    (λ c κs. (c .before .before .before .pre .0))
     (λ c. search needs)
     (λ c. search needs)
-    push-requires
-    same-length
-    returns
-    definition-requires
-    same-length-2
-    returns-2)
+    (λ c κs. can-push (at-enum-told (c .before)))
+    (λ c. c .before .before .push .kept .0 ∙ (at-enum-told (c .before .before .before .before)) .size)
+    (λ c. ends-here (at-enum-told (c .before .before .before .before)) (added _ _ _ _ _ (c .before .before .push .ensures) (can-push (at-enum-told (c .before .before .before .before)))))
+    (λ c κs. ((at-sign (c .before .before)) .room, omega (arith, (at-sign (c .before .before)) .spare)))
+    (λ c. c .before .before .definition .kept .1 .0 ∙ (at-sign (c .before .before .before .before .before)) .size)
+    (λ c. ends-here (at-sign (c .before .before .before .before .before)) (c .before .before .definition .ensures)))

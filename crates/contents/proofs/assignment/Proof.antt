@@ -49,89 +49,38 @@ abbrev at-set : (c : tie.After-set) → Along (c .before .before .before .before
 unfolding rule.assignment keyword-of numbered keywords same
 at-set c = spending _ (assigned-costs _ _) (at-value (c .before .before .before .before .before .before .before)) refl (known-run stepped (c .before .before .before .before .assigned .ensures) (c .set .given .1)) (c .before .before .before .before .assigned .kept .1 .0)
 
-returns : tie.Need-returns
-unfolding rule.assignment keyword-of numbered keywords same
-returns c = lost-here _ (enter (assignment-pays (expression-pays (c .before .before .before .before .before .args .mode) (c .before .before .before .before .before .args .left))) (c .before .before .before .before .before .pre)) refl (known taken (c .before .before .token .ensures) (c .enum-told .given .1))
-
-returns-2 : tie.Need-returns-2
-unfolding rule.assignment keyword-of numbered keywords same
-returns-2 c = lost-here _ (at-name (c .before .before .before .before)) refl (known read (c .before .before .skip .ensures) (c .enum-told2 .given .1))
-
-assignment-op-requires : tie.Need-assignment-op-requires
-assignment-op-requires c κs = (at-keyword-of (c .before)) .room
-
-same-length : tie.Need-same-length
-same-length c = c .before .before .before .before .assignment-op .kept .1 .0 ∙ (at-keyword-of (c .before .before .before .before .before .before)) .size
-
-returns-3 : tie.Need-returns-3
-unfolding rule.assignment keyword-of numbered keywords same
-returns-3 c = halts _ (at-keyword-of (c .before .before .before .before .before .before)) refl tt (runs (known-read operated (c .before .before .before .before .assignment-op .ensures) (c .enum-told3 .given .1))) _ refl
-
-expand-requires : tie.Need-expand-requires
-expand-requires c κs = ((at-sign (c .before .before)) .room, omega (arith, (at-sign (c .before .before)) .spare))
-
-same-length-2 : tie.Need-same-length-2
-same-length-2 c = c .before .before .before .expand .kept .1 .0 ∙ (at-sign (c .before .before .before .before .before .before)) .size
-
-returns-4 : tie.Need-returns-4
-unfolding rule.assignment keyword-of numbered keywords same
-returns-4 c = halts _ (at-sign (c .before .before .before .before .before .before)) refl (not-stepped (c .before .before .before .expand .result) (c .match4 .keys2)) (c .before .before .before .expand .ensures) tt (as-it-is (stepped (c .before .before .before .expand .result)))
-
-assigned-requires : tie.Need-assigned-requires
-assigned-requires c κs = ((at-value (c .before .before)) .room, omega (arith, (at-value (c .before .before)) .spare))
-
-same-length-3 : tie.Need-same-length-3
-same-length-3 c = c .before .before .before .assigned .kept .1 .0 ∙ (at-value (c .before .before .before .before .before .before)) .size
-
-returns-5 : tie.Need-returns-5
-unfolding rule.assignment keyword-of numbered keywords same
-returns-5 c = halts _ (at-value (c .before .before .before .before .before .before)) refl (not-stepped (c .before .before .before .assigned .result) (c .match5 .keys2)) (c .before .before .before .assigned .ensures) tt (as-it-is (stepped (c .before .before .before .assigned .result)))
-
-same-length-4 : tie.Need-same-length-4
-same-length-4 c = (at-set (c .before .before .before .before .before)) .size
-
-returns-6 : tie.Need-returns-6
-unfolding rule.assignment keyword-of numbered keywords same
-returns-6 c = ends-here (at-set (c .before .before .before .before .before)) (as-lost (known read (c .before .before .opt-word-skip .ensures) (c .enum-told4 .given .1)))
-
-same-length-5 : tie.Need-same-length-5
-same-length-5 c = (at-set (c .before .before .before .before .before .before)) .size
-
-returns-7 : tie.Need-returns-7
-unfolding rule.assignment keyword-of numbered keywords same
-returns-7 c = ends-here (at-set (c .before .before .before .before .before .before)) (as-bytes (known read (c .before .before .before .opt-word-skip .ensures) (c .before .ended .given .1)))
-
 pub assignment-spec : {M : Type 1} → statement M
+unfolding rule.assignment keyword-of numbered keywords same
 assignment-spec =
     tie.close
     (tie.spec
     (λ c κs. search needs)
     (λ c. search needs)
     (λ c. search needs)
-    returns
+    (λ c. lost-here _ (enter (assignment-pays (expression-pays (c .before .before .before .before .before .args .mode) (c .before .before .before .before .before .args .left))) (c .before .before .before .before .before .pre)) refl (known taken (c .before .before .token .ensures) (c .enum-told .given .1)))
     (λ c κs. search needs)
     (λ c. search needs)
     (λ c. search needs)
-    returns-2
+    (λ c. lost-here _ (at-name (c .before .before .before .before)) refl (known read (c .before .before .skip .ensures) (c .enum-told2 .given .1)))
     (λ c κs. search needs)
-    assignment-op-requires
+    (λ c κs. (at-keyword-of (c .before)) .room)
     (λ c. search needs)
     (λ c. search needs)
-    same-length
-    returns-3
-    expand-requires
+    (λ c. c .before .before .before .before .assignment-op .kept .1 .0 ∙ (at-keyword-of (c .before .before .before .before .before .before)) .size)
+    (λ c. halts _ (at-keyword-of (c .before .before .before .before .before .before)) refl tt (runs (known-read operated (c .before .before .before .before .assignment-op .ensures) (c .enum-told3 .given .1))) _ refl)
+    (λ c κs. ((at-sign (c .before .before)) .room, omega (arith, (at-sign (c .before .before)) .spare)))
     (λ c. search needs)
-    same-length-2
-    returns-4
-    assigned-requires
+    (λ c. c .before .before .before .expand .kept .1 .0 ∙ (at-sign (c .before .before .before .before .before .before)) .size)
+    (λ c. halts _ (at-sign (c .before .before .before .before .before .before)) refl (not-stepped (c .before .before .before .expand .result) (c .match4 .keys2)) (c .before .before .before .expand .ensures) tt (as-it-is (stepped (c .before .before .before .expand .result))))
+    (λ c κs. ((at-value (c .before .before)) .room, omega (arith, (at-value (c .before .before)) .spare)))
     (λ c. search needs)
-    same-length-3
-    returns-5
+    (λ c. c .before .before .before .assigned .kept .1 .0 ∙ (at-value (c .before .before .before .before .before .before)) .size)
+    (λ c. halts _ (at-value (c .before .before .before .before .before .before)) refl (not-stepped (c .before .before .before .assigned .result) (c .match5 .keys2)) (c .before .before .before .assigned .ensures) tt (as-it-is (stepped (c .before .before .before .assigned .result))))
     (λ c. search needs)
     (λ c κs. search needs)
     (λ c. search needs)
     (λ c. search needs)
-    same-length-4
-    returns-6
-    same-length-5
-    returns-7)
+    (λ c. (at-set (c .before .before .before .before .before)) .size)
+    (λ c. ends-here (at-set (c .before .before .before .before .before)) (as-lost (known read (c .before .before .opt-word-skip .ensures) (c .enum-told4 .given .1))))
+    (λ c. (at-set (c .before .before .before .before .before .before)) .size)
+    (λ c. ends-here (at-set (c .before .before .before .before .before .before)) (as-bytes (known read (c .before .before .before .opt-word-skip .ensures) (c .before .ended .given .1)))))

@@ -23,21 +23,8 @@ abbrev at-named : (c : tie.After-named) → Along (c .before .before .before .be
 unfolding rule.constructors
 at-named c = earning _ (tag-skip-earns (ascii "CONSTRUCTORS") (omega arith)) (enter (constructors-pays) (c .before .before .before .before .before .before .pre)) refl (known read (c .before .before .word-skip .ensures) (c .named .given .1))
 
-returns : tie.Need-returns
-unfolding rule.constructors
-returns c = lost-here _ (enter (constructors-pays) (c .before .before .before .before .before .before .pre)) refl (known read (c .before .before .word-skip .ensures) (c .enum-told .given .1))
-
-push-requires : tie.Need-push-requires
-push-requires c κs = can-push (at-named (c .before .before))
-
-same-length : tie.Need-same-length
-same-length c = c .before .before .push .kept .0 ∙ (at-named (c .before .before .before .before .before)) .size
-
-returns-2 : tie.Need-returns-2
-unfolding rule.constructors
-returns-2 c = ends-here (at-named (c .before .before .before .before .before)) (added _ _ _ _ _ (c .before .before .push .ensures) (can-push (at-named (c .before .before .before .before .before))))
-
 pub constructors-spec : {M : Type 1} → statement M
+unfolding rule.constructors
 constructors-spec =
     tie.close
     (tie.spec
@@ -45,7 +32,7 @@ constructors-spec =
     (λ c κs. search needs)
     (λ c. search needs)
     (λ c. search needs)
-    returns
-    push-requires
-    same-length
-    returns-2)
+    (λ c. lost-here _ (enter (constructors-pays) (c .before .before .before .before .before .before .pre)) refl (known read (c .before .before .word-skip .ensures) (c .enum-told .given .1)))
+    (λ c κs. can-push (at-named (c .before .before)))
+    (λ c. c .before .before .push .kept .0 ∙ (at-named (c .before .before .before .before .before)) .size)
+    (λ c. ends-here (at-named (c .before .before .before .before .before)) (added _ _ _ _ _ (c .before .before .push .ensures) (can-push (at-named (c .before .before .before .before .before))))))

@@ -27,35 +27,8 @@ abbrev at-told : (c : tie.After-told) → Along (c .before .before .before .befo
 unfolding rule.contents-assert
 at-told c = called _ (at-named (c .before .before .before .before .before .before .before)) refl (known-read stepped (c .before .before .before .before .asserted .ensures) (c .told .given .1)) (c .before .before .before .before .asserted .kept .1 .0)
 
-returns : tie.Need-returns
-unfolding rule.contents-assert
-returns c = lost-here _ (enter (contents-assert-pays (expression-pays (c .before .before .before .before .before .before .args .mode) (c .before .before .before .before .before .before .args .left))) (c .before .before .before .before .before .before .pre)) refl (known read (c .before .before .word-skip .ensures) (c .enum-told .given .1))
-
-asserted-requires : tie.Need-asserted-requires
-asserted-requires c κs = (at-named (c .before .before)) .room
-
-same-length : tie.Need-same-length
-same-length c = c .before .before .before .asserted .kept .1 .0 ∙ (at-named (c .before .before .before .before .before .before)) .size
-
-returns-2 : tie.Need-returns-2
-unfolding rule.contents-assert
-returns-2 c = halts _ (at-named (c .before .before .before .before .before .before)) refl (not-stepped (c .before .before .before .asserted .result) (c .match2 .keys2)) (runs (c .before .before .before .asserted .ensures)) tt (as-it-is (stepped (c .before .before .before .asserted .result)))
-
-same-length-2 : tie.Need-same-length-2
-same-length-2 c = (at-told (c .before .before .before .before .before)) .size
-
-returns-3 : tie.Need-returns-3
-unfolding rule.contents-assert
-returns-3 c = ends-here (at-told (c .before .before .before .before .before)) (as-lost (known read (c .before .before .opt-word-skip .ensures) (c .enum-told2 .given .1)))
-
-same-length-3 : tie.Need-same-length-3
-same-length-3 c = (at-told (c .before .before .before .before .before .before)) .size
-
-returns-4 : tie.Need-returns-4
-unfolding rule.contents-assert
-returns-4 c = ends-here (at-told (c .before .before .before .before .before .before)) (as-bytes (known read (c .before .before .before .opt-word-skip .ensures) (c .before .ended .given .1)))
-
 pub contents-assert-spec : {M : Type 1} → statement M
+unfolding rule.contents-assert
 contents-assert-spec =
     tie.close
     (tie.spec
@@ -63,16 +36,16 @@ contents-assert-spec =
     (λ c κs. search needs)
     (λ c. search needs)
     (λ c. search needs)
-    returns
-    asserted-requires
+    (λ c. lost-here _ (enter (contents-assert-pays (expression-pays (c .before .before .before .before .before .before .args .mode) (c .before .before .before .before .before .before .args .left))) (c .before .before .before .before .before .before .pre)) refl (known read (c .before .before .word-skip .ensures) (c .enum-told .given .1)))
+    (λ c κs. (at-named (c .before .before)) .room)
     (λ c. search needs)
-    same-length
-    returns-2
+    (λ c. c .before .before .before .asserted .kept .1 .0 ∙ (at-named (c .before .before .before .before .before .before)) .size)
+    (λ c. halts _ (at-named (c .before .before .before .before .before .before)) refl (not-stepped (c .before .before .before .asserted .result) (c .match2 .keys2)) (runs (c .before .before .before .asserted .ensures)) tt (as-it-is (stepped (c .before .before .before .asserted .result))))
     (λ c. search needs)
     (λ c κs. search needs)
     (λ c. search needs)
     (λ c. search needs)
-    same-length-2
-    returns-3
-    same-length-3
-    returns-4)
+    (λ c. (at-told (c .before .before .before .before .before)) .size)
+    (λ c. ends-here (at-told (c .before .before .before .before .before)) (as-lost (known read (c .before .before .opt-word-skip .ensures) (c .enum-told2 .given .1))))
+    (λ c. (at-told (c .before .before .before .before .before .before)) .size)
+    (λ c. ends-here (at-told (c .before .before .before .before .before .before)) (as-bytes (known read (c .before .before .before .opt-word-skip .ensures) (c .before .ended .given .1)))))

@@ -36,85 +36,31 @@ abbrev at-enum-told4 : (c : tie.After-enum-told4) → Along (c .before .before .
 unfolding rule.contents-command
 at-enum-told4 c = after-try _ (at-enum-told3 (c .before .before .before .before .before .before)) refl (known-read stepped (c .before .before .before .before .assignment .ensures) (c .enum-told4 .given .1)) (c .before .before .before .before .assignment .kept .1 .0)
 
-contents-provide-requires : tie.Need-contents-provide-requires
-contents-provide-requires c κs = (enter (contents-command-pays (expression-pays (c .before .before .before .args .mode) (c .before .before .before .args .left))) (c .before .before .before .pre)) .room
-
-same-length : tie.Need-same-length
-same-length c = c .before .before .before .before .contents-provide .kept .1 .0 ∙ (enter (contents-command-pays (expression-pays (c .before .before .before .before .before .before .before .before .args .mode) (c .before .before .before .before .before .before .before .before .args .left))) (c .before .before .before .before .before .before .before .before .pre)) .size
-
-returns : tie.Need-returns
-unfolding rule.contents-command
-returns c = other-kind _ _ (stepped (c .before .before .before .before .contents-provide .result)) (c .counted .ensures) (tried-here _ (enter (contents-command-pays (expression-pays (c .before .before .before .before .before .before .before .before .args .mode) (c .before .before .before .before .before .before .before .before .args .left))) (c .before .before .before .before .before .before .before .before .pre)) refl (c .before .before .before .before .contents-provide .result) (c .before .before .before .before .contents-provide .ensures) (c .before .match .keys2))
-
-contents-assert-requires : tie.Need-contents-assert-requires
-contents-assert-requires c κs = (at-enum-told (c .before)) .room
-
-same-length-2 : tie.Need-same-length-2
-same-length-2 c = c .before .before .before .before .contents-assert .kept .1 .0 ∙ (at-enum-told (c .before .before .before .before .before .before)) .size
-
-returns-2 : tie.Need-returns-2
-unfolding rule.contents-command
-returns-2 c = other-kind _ _ (stepped (c .before .before .before .before .contents-assert .result)) (c .counted2 .ensures) (tried-here _ (at-enum-told (c .before .before .before .before .before .before)) refl (c .before .before .before .before .contents-assert .result) (c .before .before .before .before .contents-assert .ensures) (c .before .match2 .keys2))
-
-matcher-requires : tie.Need-matcher-requires
-matcher-requires c κs = (at-enum-told2 (c .before)) .room
-
-same-length-3 : tie.Need-same-length-3
-same-length-3 c = c .before .before .before .before .matcher .kept .1 .0 ∙ (at-enum-told2 (c .before .before .before .before .before .before)) .size
-
-returns-3 : tie.Need-returns-3
-unfolding rule.contents-command
-returns-3 c = other-kind _ _ (stepped (c .before .before .before .before .matcher .result)) (c .counted3 .ensures) (tried-here _ (at-enum-told2 (c .before .before .before .before .before .before)) refl (c .before .before .before .before .matcher .result) (c .before .before .before .before .matcher .ensures) (c .before .match3 .keys2))
-
-assignment-requires : tie.Need-assignment-requires
-assignment-requires c κs = (at-enum-told3 (c .before)) .room
-
-same-length-4 : tie.Need-same-length-4
-same-length-4 c = c .before .before .before .before .assignment .kept .1 .0 ∙ (at-enum-told3 (c .before .before .before .before .before .before)) .size
-
-returns-4 : tie.Need-returns-4
-unfolding rule.contents-command
-returns-4 c = other-kind _ _ (stepped (c .before .before .before .before .assignment .result)) (c .counted4 .ensures) (tried-here _ (at-enum-told3 (c .before .before .before .before .before .before)) refl (c .before .before .before .before .assignment .result) (c .before .before .before .before .assignment .ensures) (c .before .match4 .keys2))
-
-last-try-requires : tie.Need-last-try-requires
-last-try-requires c κs = (at-enum-told4 (c .before)) .room
-
-same-length-5 : tie.Need-same-length-5
-same-length-5 c = c .before .before .last-try .kept .1 .0 ∙ (at-enum-told4 (c .before .before .before .before)) .size
-
-returns-5 : tie.Need-returns-5
-unfolding rule.contents-command
-returns-5 c =
-    let fourth = c .before .before .before .before in
-    let third = fourth .before .before .before .before .before .before in
-    let start = third .before .before .before .before .before .before .before .before .before .before .before .before .before .before .before .before .before .before .before .before in
-    let made = c .before .before .last-try in
-    (ends-here (at-enum-told4 fourth) (runs (made .ensures .0)), alone-after (expression-blind (start .args .mode) (start .args .left)) (counted (made .result)) (known-read stepped (third .before .before .before .before .matcher .ensures) (third .enum-told3 .given .1)) (known-read stepped (fourth .before .before .before .before .assignment .ensures) (fourth .enum-told4 .given .1)) (made .ensures .0) (made .ensures .1))
-
 pub contents-command-spec : {M : Type 1} → statement M
+unfolding rule.contents-command
 contents-command-spec =
     tie.close
     (tie.spec
-    contents-provide-requires
+    (λ c κs. (enter (contents-command-pays (expression-pays (c .before .before .before .args .mode) (c .before .before .before .args .left))) (c .before .before .before .pre)) .room)
     (λ c. search needs)
     (λ c κs. search needs)
-    same-length
-    returns
-    contents-assert-requires
+    (λ c. c .before .before .before .before .contents-provide .kept .1 .0 ∙ (enter (contents-command-pays (expression-pays (c .before .before .before .before .before .before .before .before .args .mode) (c .before .before .before .before .before .before .before .before .args .left))) (c .before .before .before .before .before .before .before .before .pre)) .size)
+    (λ c. other-kind _ _ (stepped (c .before .before .before .before .contents-provide .result)) (c .counted .ensures) (tried-here _ (enter (contents-command-pays (expression-pays (c .before .before .before .before .before .before .before .before .args .mode) (c .before .before .before .before .before .before .before .before .args .left))) (c .before .before .before .before .before .before .before .before .pre)) refl (c .before .before .before .before .contents-provide .result) (c .before .before .before .before .contents-provide .ensures) (c .before .match .keys2)))
+    (λ c κs. (at-enum-told (c .before)) .room)
     (λ c. search needs)
     (λ c κs. search needs)
-    same-length-2
-    returns-2
-    matcher-requires
+    (λ c. c .before .before .before .before .contents-assert .kept .1 .0 ∙ (at-enum-told (c .before .before .before .before .before .before)) .size)
+    (λ c. other-kind _ _ (stepped (c .before .before .before .before .contents-assert .result)) (c .counted2 .ensures) (tried-here _ (at-enum-told (c .before .before .before .before .before .before)) refl (c .before .before .before .before .contents-assert .result) (c .before .before .before .before .contents-assert .ensures) (c .before .match2 .keys2)))
+    (λ c κs. (at-enum-told2 (c .before)) .room)
     (λ c. search needs)
     (λ c κs. search needs)
-    same-length-3
-    returns-3
-    assignment-requires
+    (λ c. c .before .before .before .before .matcher .kept .1 .0 ∙ (at-enum-told2 (c .before .before .before .before .before .before)) .size)
+    (λ c. other-kind _ _ (stepped (c .before .before .before .before .matcher .result)) (c .counted3 .ensures) (tried-here _ (at-enum-told2 (c .before .before .before .before .before .before)) refl (c .before .before .before .before .matcher .result) (c .before .before .before .before .matcher .ensures) (c .before .match3 .keys2)))
+    (λ c κs. (at-enum-told3 (c .before)) .room)
     (λ c. search needs)
     (λ c κs. search needs)
-    same-length-4
-    returns-4
-    last-try-requires
-    same-length-5
-    returns-5)
+    (λ c. c .before .before .before .before .assignment .kept .1 .0 ∙ (at-enum-told3 (c .before .before .before .before .before .before)) .size)
+    (λ c. other-kind _ _ (stepped (c .before .before .before .before .assignment .result)) (c .counted4 .ensures) (tried-here _ (at-enum-told3 (c .before .before .before .before .before .before)) refl (c .before .before .before .before .assignment .result) (c .before .before .before .before .assignment .ensures) (c .before .match4 .keys2)))
+    (λ c κs. (at-enum-told4 (c .before)) .room)
+    (λ c. c .before .before .last-try .kept .1 .0 ∙ (at-enum-told4 (c .before .before .before .before)) .size)
+    (λ c. let fourth = c .before .before .before .before in let third = fourth .before .before .before .before .before .before in let start = third .before .before .before .before .before .before .before .before .before .before .before .before .before .before .before .before .before .before .before .before in let made = c .before .before .last-try in (ends-here (at-enum-told4 fourth) (runs (made .ensures .0)), alone-after (expression-blind (start .args .mode) (start .args .left)) (counted (made .result)) (known-read stepped (third .before .before .before .before .matcher .ensures) (third .enum-told3 .given .1)) (known-read stepped (fourth .before .before .before .before .assignment .ensures) (fourth .enum-told4 .given .1)) (made .ensures .0) (made .ensures .1))))

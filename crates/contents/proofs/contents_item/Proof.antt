@@ -7,39 +7,16 @@ use Rattle.contents.proofs.Alone.{telling, still-alone, by-itself}
 use Rattle.contents.proofs.contents_item.Statement.{statement}
 use Rattle.contents.proofs.contents_item.Tie as tie
 
-constructors-requires : tie.Need-constructors-requires
-constructors-requires c κs = c .before .before .before .before .before .before .before .before .pre .0
-
-same-length : tie.Need-same-length
-same-length c = c .before .before .before .constructors .kept .1 .0
-
-returns : tie.Need-returns
-returns c =
-    let start = c .before .before .before .before .before .before .before .before .before .before .before .before in
-    let value = expression (start .args .mode) (start .args .left) in
-    let here = sym (c .before .before .before .before .before .before .starts .ensures) ∙ c .before .before .before .before .before .if2 .taken in
-    let made = c .before .before .before .constructors in
-    (telling _ (c .counted .ensures) (by-itself value (start .args .script .now) (start .pre .1) (c .before .before .before .before .before .before .before .before .if1 .taken) here (made .ensures)), still-alone value (start .args .script .now) (start .args .c) (stepped (made .result)) (c .counted .ensures) (made .ensures .came) (start .pre .1))
-
-contents-command-requires : tie.Need-contents-command-requires
-contents-command-requires c κs = c .before .before .before .before .before .pre .0
-
-same-length-2 : tie.Need-same-length-2
-same-length-2 c = c .before .before .contents-command .kept .1 .0
-
-returns-2 : tie.Need-returns-2
-returns-2 c = c .before .before .contents-command .ensures
-
 pub contents-item-spec : {M : Type 1} → statement M
 contents-item-spec =
     tie.close
     (tie.spec
     (λ c. search needs)
     (λ c κs. search needs)
-    constructors-requires
+    (λ c κs. c .before .before .before .before .before .before .before .before .pre .0)
     (λ c κs. search needs)
-    same-length
-    returns
-    contents-command-requires
-    same-length-2
-    returns-2)
+    (λ c. c .before .before .before .constructors .kept .1 .0)
+    (λ c. let start = c .before .before .before .before .before .before .before .before .before .before .before .before in let value = expression (start .args .mode) (start .args .left) in let here = sym (c .before .before .before .before .before .before .starts .ensures) ∙ c .before .before .before .before .before .if2 .taken in let made = c .before .before .before .constructors in (telling _ (c .counted .ensures) (by-itself value (start .args .script .now) (start .pre .1) (c .before .before .before .before .before .before .before .before .if1 .taken) here (made .ensures)), still-alone value (start .args .script .now) (start .args .c) (stepped (made .result)) (c .counted .ensures) (made .ensures .came) (start .pre .1)))
+    (λ c κs. c .before .before .before .before .before .pre .0)
+    (λ c. c .before .before .contents-command .kept .1 .0)
+    (λ c. c .before .before .contents-command .ensures))

@@ -27,25 +27,8 @@ abbrev at-skipped : (c : tie.After-skipped) → Along (c .before .before .before
 unfolding rule.contents-provide
 at-skipped c = bytes _ (at-named (c .before .before .before .before)) refl (known read (c .before .before .skip .ensures) (c .skipped .given .1))
 
-returns : tie.Need-returns
-unfolding rule.contents-provide
-returns c = lost-here _ (enter (contents-provide-pays (expression-pays (c .before .before .before .before .before .before .before .args .mode) (c .before .before .before .before .before .before .before .args .left))) (c .before .before .before .before .before .before .before .pre)) refl (known operated (c .before .before .sign-of-two .ensures) (c .enum-told .given .1))
-
-returns-2 : tie.Need-returns-2
-unfolding rule.contents-provide
-returns-2 c = lost-here _ (at-named (c .before .before .before .before)) refl (known read (c .before .before .skip .ensures) (c .enum-told2 .given .1))
-
-provide-requires : tie.Need-provide-requires
-provide-requires c κs = (at-skipped (c .before .before)) .room
-
-same-length : tie.Need-same-length
-same-length c = c .before .before .provide .kept .1 .0 ∙ (at-skipped (c .before .before .before .before .before)) .size
-
-returns-3 : tie.Need-returns-3
-unfolding rule.contents-provide
-returns-3 c = ends-here (at-skipped (c .before .before .before .before .before)) (runs (c .before .before .provide .ensures))
-
 pub contents-provide-spec : {M : Type 1} → statement M
+unfolding rule.contents-provide
 contents-provide-spec =
     tie.close
     (tie.spec
@@ -54,11 +37,11 @@ contents-provide-spec =
     (λ c κs. search needs)
     (λ c. search needs)
     (λ c. search needs)
-    returns
+    (λ c. lost-here _ (enter (contents-provide-pays (expression-pays (c .before .before .before .before .before .before .before .args .mode) (c .before .before .before .before .before .before .before .args .left))) (c .before .before .before .before .before .before .before .pre)) refl (known operated (c .before .before .sign-of-two .ensures) (c .enum-told .given .1)))
     (λ c κs. search needs)
     (λ c. search needs)
     (λ c. search needs)
-    returns-2
-    provide-requires
-    same-length
-    returns-3)
+    (λ c. lost-here _ (at-named (c .before .before .before .before)) refl (known read (c .before .before .skip .ensures) (c .enum-told2 .given .1)))
+    (λ c κs. (at-skipped (c .before .before)) .room)
+    (λ c. c .before .before .provide .kept .1 .0 ∙ (at-skipped (c .before .before .before .before .before)) .size)
+    (λ c. ends-here (at-skipped (c .before .before .before .before .before)) (runs (c .before .before .provide .ensures))))

@@ -22,32 +22,14 @@ Along start = Way (rule.keep or-else rule.matcher-pattern 0) (start .args .scrip
 abbrev at-enum-told : (c : tie.After-enum-told) → Along (c .before .before .before .before .before .before .before .before) 0 (c .before .before .before .before .keep .last .1 .0) (c .before .before .before .before .before .before .before .before .args .c)
 at-enum-told c = after-try _ (enter (λ f i. keep-pays f i or-it matcher-pattern-pays 0 f i) (c .before .before .before .before .before .before .before .before .pre)) refl (known-read stepped (c .before .before .before .before .keep .ensures) (c .enum-told .given .1)) (c .before .before .before .before .keep .kept .1 .0)
 
-keep-requires : tie.Need-keep-requires
-keep-requires c κs = (enter (λ f i. keep-pays f i or-it matcher-pattern-pays 0 f i) (c .before .before .before .pre)) .room
-
-same-length : tie.Need-same-length
-same-length c = c .before .before .before .keep .kept .1 .0 ∙ (enter (λ f i. keep-pays f i or-it matcher-pattern-pays 0 f i) (c .before .before .before .before .before .before .before .pre)) .size
-
-returns : tie.Need-returns
-returns c = tried-here _ (enter (λ f i. keep-pays f i or-it matcher-pattern-pays 0 f i) (c .before .before .before .before .before .before .before .pre)) refl (c .before .before .before .keep .result) (c .before .before .before .keep .ensures) (c .match .keys2)
-
-matcher-pattern-requires : tie.Need-matcher-pattern-requires
-matcher-pattern-requires c κs = ((at-enum-told (c .before)) .room, omega arith)
-
-same-length-2 : tie.Need-same-length-2
-same-length-2 c = c .before .before .matcher-pattern .kept .1 .0 ∙ (at-enum-told (c .before .before .before .before)) .size
-
-returns-2 : tie.Need-returns-2
-returns-2 c = ends-here (at-enum-told (c .before .before .before .before)) (runs (c .before .before .matcher-pattern .ensures))
-
 pub either-matcher-spec : {M : Type 1} → statement M
 either-matcher-spec =
     tie.close
     (tie.spec
-    keep-requires
+    (λ c κs. (enter (λ f i. keep-pays f i or-it matcher-pattern-pays 0 f i) (c .before .before .before .pre)) .room)
     (λ c. search needs)
-    same-length
-    returns
-    matcher-pattern-requires
-    same-length-2
-    returns-2)
+    (λ c. c .before .before .before .keep .kept .1 .0 ∙ (enter (λ f i. keep-pays f i or-it matcher-pattern-pays 0 f i) (c .before .before .before .before .before .before .before .pre)) .size)
+    (λ c. tried-here _ (enter (λ f i. keep-pays f i or-it matcher-pattern-pays 0 f i) (c .before .before .before .before .before .before .before .pre)) refl (c .before .before .before .keep .result) (c .before .before .before .keep .ensures) (c .match .keys2))
+    (λ c κs. ((at-enum-told (c .before)) .room, omega arith))
+    (λ c. c .before .before .matcher-pattern .kept .1 .0 ∙ (at-enum-told (c .before .before .before .before)) .size)
+    (λ c. ends-here (at-enum-told (c .before .before .before .before)) (runs (c .before .before .matcher-pattern .ensures))))

@@ -31,39 +31,8 @@ abbrev at-kept : (c : tie.After-kept) → Along (c .before .before .before .befo
 unfolding rule.keep
 at-kept c = called _ (at-opened (c .before .before .before .before .before .before .before)) refl (known-read stepped (c .before .before .before .before .matcher-pattern .ensures) (c .kept .given .1)) (c .before .before .before .before .matcher-pattern .kept .1 .0)
 
-returns : tie.Need-returns
-unfolding rule.keep
-returns c = lost-here _ (enter (keep-pays) (c .before .before .before .before .before .before .pre)) refl (known read (c .before .before .word .ensures) (c .enum-told .given .1))
-
-returns-2 : tie.Need-returns-2
-unfolding rule.keep
-returns-2 c = lost-here _ (at-named (c .before .before .before .before .before)) refl (known read (c .before .before .skip-word .ensures) (c .enum-told2 .given .1))
-
-matcher-pattern-requires : tie.Need-matcher-pattern-requires
-matcher-pattern-requires c κs = ((at-opened (c .before .before)) .room, omega arith)
-
-same-length : tie.Need-same-length
-same-length c = c .before .before .before .matcher-pattern .kept .1 .0 ∙ (at-opened (c .before .before .before .before .before .before)) .size
-
-returns-3 : tie.Need-returns-3
-unfolding rule.keep
-returns-3 c = halts _ (at-opened (c .before .before .before .before .before .before)) refl (not-stepped (c .before .before .before .matcher-pattern .result) (c .match3 .keys2)) (runs (c .before .before .before .matcher-pattern .ensures)) tt (as-it-is (stepped (c .before .before .before .matcher-pattern .result)))
-
-same-length-2 : tie.Need-same-length-2
-same-length-2 c = (at-kept (c .before .before .before .before .before)) .size
-
-returns-4 : tie.Need-returns-4
-unfolding rule.keep
-returns-4 c = ends-here (at-kept (c .before .before .before .before .before)) (as-lost (known read (c .before .before .word-skip .ensures) (c .enum-told3 .given .1)))
-
-same-length-3 : tie.Need-same-length-3
-same-length-3 c = (at-kept (c .before .before .before .before .before .before)) .size
-
-returns-5 : tie.Need-returns-5
-unfolding rule.keep
-returns-5 c = ends-here (at-kept (c .before .before .before .before .before .before)) (as-bytes (known read (c .before .before .before .word-skip .ensures) (c .before .closed .given .1)))
-
 pub keep-spec : {M : Type 1} → statement M
+unfolding rule.keep
 keep-spec =
     tie.close
     (tie.spec
@@ -71,21 +40,21 @@ keep-spec =
     (λ c κs. search needs)
     (λ c. search needs)
     (λ c. search needs)
-    returns
+    (λ c. lost-here _ (enter (keep-pays) (c .before .before .before .before .before .before .pre)) refl (known read (c .before .before .word .ensures) (c .enum-told .given .1)))
     (λ c. search needs)
     (λ c κs. search needs)
     (λ c. search needs)
     (λ c. search needs)
-    returns-2
-    matcher-pattern-requires
+    (λ c. lost-here _ (at-named (c .before .before .before .before .before)) refl (known read (c .before .before .skip-word .ensures) (c .enum-told2 .given .1)))
+    (λ c κs. ((at-opened (c .before .before)) .room, omega arith))
     (λ c. search needs)
-    same-length
-    returns-3
+    (λ c. c .before .before .before .matcher-pattern .kept .1 .0 ∙ (at-opened (c .before .before .before .before .before .before)) .size)
+    (λ c. halts _ (at-opened (c .before .before .before .before .before .before)) refl (not-stepped (c .before .before .before .matcher-pattern .result) (c .match3 .keys2)) (runs (c .before .before .before .matcher-pattern .ensures)) tt (as-it-is (stepped (c .before .before .before .matcher-pattern .result))))
     (λ c. search needs)
     (λ c κs. search needs)
     (λ c. search needs)
     (λ c. search needs)
-    same-length-2
-    returns-4
-    same-length-3
-    returns-5)
+    (λ c. (at-kept (c .before .before .before .before .before)) .size)
+    (λ c. ends-here (at-kept (c .before .before .before .before .before)) (as-lost (known read (c .before .before .word-skip .ensures) (c .enum-told3 .given .1))))
+    (λ c. (at-kept (c .before .before .before .before .before .before)) .size)
+    (λ c. ends-here (at-kept (c .before .before .before .before .before .before)) (as-bytes (known read (c .before .before .before .word-skip .ensures) (c .before .closed .given .1)))))

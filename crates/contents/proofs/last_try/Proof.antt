@@ -8,32 +8,17 @@ use Rattle.contents.proofs.Alone.{telling, within, reach}
 use Rattle.contents.proofs.last_try.Statement.{statement}
 use Rattle.contents.proofs.last_try.Tie as tie
 
-constructors-requires : tie.Need-constructors-requires
-constructors-requires c κs = c .before .before .before .pre
-
-same-length : tie.Need-same-length
-same-length c = c .before .before .before .before .before .before .constructors .kept .1 .0
-
-returns : tie.Need-returns
-returns c = (telling 0 (c .counted .ensures) (c .before .before .before .before .before .before .constructors .ensures), within _ _ (stepped (c .before .before .before .before .before .before .constructors .result)) (c .counted .ensures) (omega arith))
-
-same-length-2 : tie.Need-same-length-2
-same-length-2 c = c .before .before .before .before .before .before .before .constructors .kept .1 .0
-
-returns-2 : tie.Need-returns-2
-returns-2 c = (telling _ (c .counted2 .ensures) (c .before .before .before .before .before .before .before .constructors .ensures), within _ _ (stepped (c .before .before .before .before .before .before .before .constructors .result)) (c .counted2 .ensures) (reach (known taken (c .before .before .before .before .take-while .ensures) (c .before .before .word .given .1))))
-
 pub last-try-spec : {M : Type 1} → statement M
 last-try-spec =
     tie.close
     (tie.spec
-    constructors-requires
+    (λ c κs. c .before .before .before .pre)
     (λ c κs. search needs)
     (λ c. search needs)
     (λ c. search needs)
     (λ c κs. search needs)
-    same-length
-    returns
+    (λ c. c .before .before .before .before .before .before .constructors .kept .1 .0)
+    (λ c. (telling 0 (c .counted .ensures) (c .before .before .before .before .before .before .constructors .ensures), within _ _ (stepped (c .before .before .before .before .before .before .constructors .result)) (c .counted .ensures) (omega arith)))
     (λ c κs. search needs)
-    same-length-2
-    returns-2)
+    (λ c. c .before .before .before .before .before .before .before .constructors .kept .1 .0)
+    (λ c. (telling _ (c .counted2 .ensures) (c .before .before .before .before .before .before .before .constructors .ensures), within _ _ (stepped (c .before .before .before .before .before .before .before .constructors .result)) (c .counted2 .ensures) (reach (known taken (c .before .before .before .before .take-while .ensures) (c .before .before .word .given .1))))))

@@ -21,43 +21,20 @@ abbrev at-found : (c : tie.After-found) → Along (c .before .before .before .be
 unfolding rule.matcher
 at-found c = called _ (enter (matcher-pays) (c .before .before .before .before .before .before .before .before .pre)) refl (known-read stepped (c .before .before .before .before .either-matcher .ensures) (c .found .given .1)) (c .before .before .before .before .either-matcher .kept .1 .0)
 
-either-matcher-requires : tie.Need-either-matcher-requires
-either-matcher-requires c κs = (enter (matcher-pays) (c .before .before .before .pre)) .room
-
-same-length : tie.Need-same-length
-same-length c = c .before .before .before .either-matcher .kept .1 .0 ∙ (enter (matcher-pays) (c .before .before .before .before .before .before .before .pre)) .size
-
-returns : tie.Need-returns
-unfolding rule.matcher
-returns c = halts _ (enter (matcher-pays) (c .before .before .before .before .before .before .before .pre)) refl (not-stepped (c .before .before .before .either-matcher .result) (c .match .keys2)) (runs (c .before .before .before .either-matcher .ensures)) tt (as-it-is (stepped (c .before .before .before .either-matcher .result)))
-
-same-length-2 : tie.Need-same-length-2
-same-length-2 c = (at-found (c .before .before .before .before .before)) .size
-
-returns-2 : tie.Need-returns-2
-unfolding rule.matcher
-returns-2 c = ends-here (at-found (c .before .before .before .before .before)) (as-lost (known read (c .before .before .opt-word-skip .ensures) (c .enum-told .given .1)))
-
-same-length-3 : tie.Need-same-length-3
-same-length-3 c = (at-found (c .before .before .before .before .before .before)) .size
-
-returns-3 : tie.Need-returns-3
-unfolding rule.matcher
-returns-3 c = ends-here (at-found (c .before .before .before .before .before .before)) (as-bytes (known read (c .before .before .before .opt-word-skip .ensures) (c .before .ended .given .1)))
-
 pub matcher-spec : {M : Type 1} → statement M
+unfolding rule.matcher
 matcher-spec =
     tie.close
     (tie.spec
-    either-matcher-requires
+    (λ c κs. (enter (matcher-pays) (c .before .before .before .pre)) .room)
     (λ c. search needs)
-    same-length
-    returns
+    (λ c. c .before .before .before .either-matcher .kept .1 .0 ∙ (enter (matcher-pays) (c .before .before .before .before .before .before .before .pre)) .size)
+    (λ c. halts _ (enter (matcher-pays) (c .before .before .before .before .before .before .before .pre)) refl (not-stepped (c .before .before .before .either-matcher .result) (c .match .keys2)) (runs (c .before .before .before .either-matcher .ensures)) tt (as-it-is (stepped (c .before .before .before .either-matcher .result))))
     (λ c. search needs)
     (λ c κs. search needs)
     (λ c. search needs)
     (λ c. search needs)
-    same-length-2
-    returns-2
-    same-length-3
-    returns-3)
+    (λ c. (at-found (c .before .before .before .before .before)) .size)
+    (λ c. ends-here (at-found (c .before .before .before .before .before)) (as-lost (known read (c .before .before .opt-word-skip .ensures) (c .enum-told .given .1))))
+    (λ c. (at-found (c .before .before .before .before .before .before)) .size)
+    (λ c. ends-here (at-found (c .before .before .before .before .before .before)) (as-bytes (known read (c .before .before .before .opt-word-skip .ensures) (c .before .ended .given .1)))))

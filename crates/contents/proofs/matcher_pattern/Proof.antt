@@ -50,82 +50,35 @@ abbrev at-if1-left : (c : tie.Else1) → Along (c .before .before .before .befor
 unfolding rule.matcher-pattern
 at-if1-left c = where-not (at-keyword-of (c .before)) _ _ refl (no-star _ (c .if1 .left))
 
-returns : tie.Need-returns
-unfolding rule.matcher-pattern
-returns c = lost-here _ (enter (matcher-pattern-pays (c .before .before .before .before .before .args .keep)) (c .before .before .before .before .before .pre .0)) refl (known taken (c .before .before .token .ensures) (c .enum-told .given .1))
-
-returns-2 : tie.Need-returns-2
-unfolding rule.matcher-pattern
-returns-2 c = lost-here _ (at-file (c .before .before .before .before .before)) refl (known read (c .before .before .skip-word-skip .ensures) (c .enum-told2 .given .1))
-
-patterns-requires : tie.Need-patterns-requires
-patterns-requires c κs = (at-opened (c .before .before)) .room
-
-same-length : tie.Need-same-length
-same-length c = c .before .before .before .before .patterns .kept .1 .0 ∙ (at-opened (c .before .before .before .before .before .before .before)) .size
-
-returns-3 : tie.Need-returns-3
-unfolding rule.matcher-pattern
-returns-3 c = halts _ (at-opened (c .before .before .before .before .before .before .before)) refl (not-counted (c .before .before .before .before .patterns .result) (c .before .match3 .keys2)) (runs (c .before .before .before .before .patterns .ensures)) _ (c .step .ensures)
-
-same-length-2 : tie.Need-same-length-2
-same-length-2 c = (at-list (c .before .before .before .before)) .size
-
-returns-4 : tie.Need-returns-4
-unfolding rule.matcher-pattern
-returns-4 c = lost-here _ (at-list (c .before .before .before .before)) refl (known read (c .before .before .skip .ensures) (c .enum-told3 .given .1))
-
-add-push : tie.Need-add-push
-add-push c = record { fits = omega (arith, c .before .before .before .before .before .before .before .before .before .before .before .before .before .before .before .before .before .before .before .before .before .before .before .before .before .pre .1) }
-
-push-requires : tie.Need-push-requires
-push-requires c κs = can-push (at-if1 (c .before))
-
-same-length-3 : tie.Need-same-length-3
-same-length-3 c = c .before .before .push .kept .0 ∙ (at-if1 (c .before .before .before .before)) .size
-
-returns-5 : tie.Need-returns-5
-unfolding rule.matcher-pattern
-returns-5 c = ends-here (at-if1 (c .before .before .before .before)) (added _ _ _ _ _ (c .before .before .push .ensures) (can-push (at-if1 (c .before .before .before .before))))
-
-push-requires-2 : tie.Need-push-requires-2
-push-requires-2 c κs = can-push (at-if1-left (c .before))
-
-same-length-4 : tie.Need-same-length-4
-same-length-4 c = c .before .before .push2 .kept .0 ∙ (at-if1-left (c .before .before .before .before)) .size
-
-returns-6 : tie.Need-returns-6
-unfolding rule.matcher-pattern
-returns-6 c = ends-here (at-if1-left (c .before .before .before .before)) (added _ _ _ _ _ (c .before .before .push2 .ensures) (can-push (at-if1-left (c .before .before .before .before))))
-
 pub matcher-pattern-spec : {M : Type 1} → statement M
+unfolding rule.matcher-pattern
 matcher-pattern-spec =
     tie.close
     (tie.spec
     (λ c κs. search needs)
     (λ c. search needs)
     (λ c. search needs)
-    returns
+    (λ c. lost-here _ (enter (matcher-pattern-pays (c .before .before .before .before .before .args .keep)) (c .before .before .before .before .before .pre .0)) refl (known taken (c .before .before .token .ensures) (c .enum-told .given .1)))
     (λ c. search needs)
     (λ c κs. search needs)
     (λ c. search needs)
     (λ c. search needs)
-    returns-2
-    patterns-requires
+    (λ c. lost-here _ (at-file (c .before .before .before .before .before)) refl (known read (c .before .before .skip-word-skip .ensures) (c .enum-told2 .given .1)))
+    (λ c κs. (at-opened (c .before .before)) .room)
     (λ c. search needs)
     (λ c κs. search needs)
-    same-length
-    returns-3
+    (λ c. c .before .before .before .before .patterns .kept .1 .0 ∙ (at-opened (c .before .before .before .before .before .before .before)) .size)
+    (λ c. halts _ (at-opened (c .before .before .before .before .before .before .before)) refl (not-counted (c .before .before .before .before .patterns .result) (c .before .match3 .keys2)) (runs (c .before .before .before .before .patterns .ensures)) _ (c .step .ensures))
     (λ c κs. search needs)
     (λ c. search needs)
     (λ c. search needs)
-    same-length-2
-    returns-4
+    (λ c. (at-list (c .before .before .before .before)) .size)
+    (λ c. lost-here _ (at-list (c .before .before .before .before)) refl (known read (c .before .before .skip .ensures) (c .enum-told3 .given .1)))
     (λ c κs. search needs)
-    add-push
-    push-requires
-    same-length-3
-    returns-5
-    push-requires-2
-    same-length-4
-    returns-6)
+    (λ c. record { fits = omega (arith, c .before .before .before .before .before .before .before .before .before .before .before .before .before .before .before .before .before .before .before .before .before .before .before .before .before .pre .1) })
+    (λ c κs. can-push (at-if1 (c .before)))
+    (λ c. c .before .before .push .kept .0 ∙ (at-if1 (c .before .before .before .before)) .size)
+    (λ c. ends-here (at-if1 (c .before .before .before .before)) (added _ _ _ _ _ (c .before .before .push .ensures) (can-push (at-if1 (c .before .before .before .before)))))
+    (λ c κs. can-push (at-if1-left (c .before)))
+    (λ c. c .before .before .push2 .kept .0 ∙ (at-if1-left (c .before .before .before .before)) .size)
+    (λ c. ends-here (at-if1-left (c .before .before .before .before)) (added _ _ _ _ _ (c .before .before .push2 .ensures) (can-push (at-if1-left (c .before .before .before .before))))))

@@ -25,27 +25,8 @@ abbrev at-sort : (c : tie.After-sort) → Along (c .before .before .before .befo
 unfolding rule.pattern rule.sort perhaps
 at-sort c = bytes _ (enter (pattern-pays) (c .before .before .before .before .before .before .before .before .pre)) refl (opt-some (known operated (c .before .before .sign-of-three .ensures) (c .sort .given .1)))
 
-plain-pattern-requires : tie.Need-plain-pattern-requires
-plain-pattern-requires c κs = (at-enum-told (c .before)) .room
-
-same-length : tie.Need-same-length
-same-length c = c .before .before .plain-pattern .kept .1 .0 ∙ (at-enum-told (c .before .before .before .before)) .size
-
-returns : tie.Need-returns
-unfolding rule.pattern rule.sort perhaps
-returns c = ends-here (at-enum-told (c .before .before .before .before)) (runs (c .before .before .plain-pattern .ensures))
-
-sorted-pattern-requires : tie.Need-sorted-pattern-requires
-sorted-pattern-requires c κs = (at-sort (c .before .before)) .room
-
-same-length-2 : tie.Need-same-length-2
-same-length-2 c = c .before .before .sorted-pattern .kept .1 .0 ∙ (at-sort (c .before .before .before .before .before)) .size
-
-returns-2 : tie.Need-returns-2
-unfolding rule.pattern rule.sort perhaps
-returns-2 c = ends-here (at-sort (c .before .before .before .before .before)) (runs (c .before .before .sorted-pattern .ensures))
-
 pub pattern-spec : {M : Type 1} → statement M
+unfolding rule.pattern rule.sort perhaps
 pattern-spec =
     tie.close
     (tie.spec
@@ -55,9 +36,9 @@ pattern-spec =
     (λ c κs. search needs)
     (λ c. search needs)
     (λ c. search needs)
-    plain-pattern-requires
-    same-length
-    returns
-    sorted-pattern-requires
-    same-length-2
-    returns-2)
+    (λ c κs. (at-enum-told (c .before)) .room)
+    (λ c. c .before .before .plain-pattern .kept .1 .0 ∙ (at-enum-told (c .before .before .before .before)) .size)
+    (λ c. ends-here (at-enum-told (c .before .before .before .before)) (runs (c .before .before .plain-pattern .ensures)))
+    (λ c κs. (at-sort (c .before .before)) .room)
+    (λ c. c .before .before .sorted-pattern .kept .1 .0 ∙ (at-sort (c .before .before .before .before .before)) .size)
+    (λ c. ends-here (at-sort (c .before .before .before .before .before)) (runs (c .before .before .sorted-pattern .ensures))))

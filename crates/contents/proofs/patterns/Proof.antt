@@ -44,66 +44,29 @@ abbrev at-item : (c : tie.After-item Inv-loop μ-loop) → Along (c .before .bef
 unfolding repeat-till repeating if_then_else_
 at-item c = called _ (at-enum-told (c .before .before .before .before .before .before)) refl (known-read stepped (c .before .before .before .before .pattern .ensures) (c .item .given .1)) (c .before .before .before .before .pattern .kept .1 .0)
 
-loop-holds : tie.Need-loop-holds Inv-loop μ-loop
-unfolding repeat-till repeating if_then_else_
-loop-holds c = (record { way = bytes _ (enter (λ f i. repeats (pattern-pays f i) (over _)) (c .before .before .pre)) refl sized; left = ap (λ n. repeating rule.pattern (word ")") n 0) (sym (add-one (length (c .before .before .args .script .now)))) }, omega arith)
-
-same-length : tie.Need-same-length Inv-loop μ-loop
-same-length c = (at-end (c .before)) .size
-
-returns : tie.Need-returns Inv-loop μ-loop
-unfolding repeat-till repeating if_then_else_
-returns c = ends-here (at-end (c .before)) (as-bytes (given _))
-
-pattern-requires : tie.Need-pattern-requires Inv-loop μ-loop
-pattern-requires c κs = (at-enum-told (c .before)) .room
-
-same-length-2 : tie.Need-same-length-2 Inv-loop μ-loop
-same-length-2 c = c .before .before .before .before .pattern .kept .1 .0 ∙ (at-enum-told (c .before .before .before .before .before .before)) .size
-
-returns-2 : tie.Need-returns-2 Inv-loop μ-loop
-unfolding repeat-till repeating if_then_else_
-returns-2 c = halts _ (at-enum-told (c .before .before .before .before .before .before)) refl (not-stepped (c .before .before .before .before .pattern .result) (c .before .match2 .keys2)) (runs (c .before .before .before .before .pattern .ensures)) _ (c .counted .ensures)
-
-sub-turns : tie.Need-sub-turns Inv-loop μ-loop
-sub-turns c = omega (arith, c .before .before .before .before .before .before .before .before .before .before .before .loop-test .taken)
-
-loop-less : tie.Need-loop-less Inv-loop μ-loop
-loop-less c = omega (arith, c .before .before .before .before .before .before .before .before .before .before .before .loop-test .taken)
-
-loop-again : tie.Need-loop-again Inv-loop μ-loop
-unfolding repeat-till repeating if_then_else_
-loop-again c = (record { way = (at-item (c .before)); left = ap (λ n. repeating rule.pattern (word ")") (c .before .before .before .before .before .before .before .before .before .before .before .before .loop .turns - 1) n) (sym (add-one (c .before .before .before .before .before .before .before .before .before .before .before .before .loop .k))) }, omega (arith, c .before .before .before .before .before .before .before .before .before .before .before .before .loop .inv .1, c .before .before .before .before .before .before .before .before .before .before .before .loop-test .taken))
-
-same-length-3 : tie.Need-same-length-3 Inv-loop μ-loop
-same-length-3 c = (c .before .loop .inv .0 .way) .size
-
-returns-3 : tie.Need-returns-3 Inv-loop μ-loop
-unfolding repeat-till repeating if_then_else_
-returns-3 c = spent (c .before .loop .inv .0 .way) (λ n. repeating rule.pattern (word ")") n (c .before .loop .k)) (c .before .loop .inv .0 .left) (c .loop-test .left) (as-lost refused)
-
 pub patterns-spec : {M : Type 1} → statement M
+unfolding repeat-till repeating if_then_else_
 patterns-spec =
     tie.close
     (tie.spec
     Inv-loop
     μ-loop
     (λ c. search needs)
-    loop-holds
+    (λ c. (record { way = bytes _ (enter (λ f i. repeats (pattern-pays f i) (over _)) (c .before .before .pre)) refl sized; left = ap (λ n. repeating rule.pattern (word ")") n 0) (sym (add-one (length (c .before .before .args .script .now)))) }, omega arith))
     (λ c. search needs)
     (λ c κs. search needs)
     (λ c. search needs)
-    same-length
-    returns
+    (λ c. (at-end (c .before)) .size)
+    (λ c. ends-here (at-end (c .before)) (as-bytes (given _)))
     (λ c. search needs)
-    pattern-requires
+    (λ c κs. (at-enum-told (c .before)) .room)
     (λ c. search needs)
     (λ c κs. search needs)
-    same-length-2
-    returns-2
+    (λ c. c .before .before .before .before .pattern .kept .1 .0 ∙ (at-enum-told (c .before .before .before .before .before .before)) .size)
+    (λ c. halts _ (at-enum-told (c .before .before .before .before .before .before)) refl (not-stepped (c .before .before .before .before .pattern .result) (c .before .match2 .keys2)) (runs (c .before .before .before .before .pattern .ensures)) _ (c .counted .ensures))
     (λ c. search needs)
-    sub-turns
-    loop-less
-    loop-again
-    same-length-3
-    returns-3)
+    (λ c. omega (arith, c .before .before .before .before .before .before .before .before .before .before .before .loop-test .taken))
+    (λ c. omega (arith, c .before .before .before .before .before .before .before .before .before .before .before .loop-test .taken))
+    (λ c. (record { way = (at-item (c .before)); left = ap (λ n. repeating rule.pattern (word ")") (c .before .before .before .before .before .before .before .before .before .before .before .before .loop .turns - 1) n) (sym (add-one (c .before .before .before .before .before .before .before .before .before .before .before .before .loop .k))) }, omega (arith, c .before .before .before .before .before .before .before .before .before .before .before .before .loop .inv .1, c .before .before .before .before .before .before .before .before .before .before .before .loop-test .taken)))
+    (λ c. (c .before .loop .inv .0 .way) .size)
+    (λ c. spent (c .before .loop .inv .0 .way) (λ n. repeating rule.pattern (word ")") n (c .before .loop .k)) (c .before .loop .inv .0 .left) (c .loop-test .left) (as-lost refused)))

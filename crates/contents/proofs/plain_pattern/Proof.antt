@@ -30,44 +30,23 @@ abbrev at-behind : (c : tie.After-behind) → Along (c .before .before .before .
 unfolding rule.plain-pattern pattern-name
 at-behind c = bytes _ (at-name (c .before .before .before .before)) refl (known read (c .before .before .skip2 .ensures) (c .behind .given .1))
 
-returns : tie.Need-returns
-unfolding rule.plain-pattern pattern-name
-returns c = lost-here _ (enter (plain-pattern-pays) (c .before .before .before .before .before .pre)) refl (known read (c .before .before .skip .ensures) (c .enum-told .given .1))
-
-returns-2 : tie.Need-returns-2
-unfolding rule.plain-pattern pattern-name
-returns-2 c = lost-here _ (at-before2 (c .before .before .before .before)) refl (known taken (c .before .before .take-while .ensures) (c .enum-told2 .given .1))
-
-returns-3 : tie.Need-returns-3
-unfolding rule.plain-pattern pattern-name
-returns-3 c = lost-here _ (at-name (c .before .before .before .before)) refl (known read (c .before .before .skip2 .ensures) (c .enum-told3 .given .1))
-
-push-requires : tie.Need-push-requires
-push-requires c κs = can-push (at-behind (c .before .before))
-
-same-length : tie.Need-same-length
-same-length c = c .before .before .push .kept .0 ∙ (at-behind (c .before .before .before .before .before)) .size
-
-returns-4 : tie.Need-returns-4
-unfolding rule.plain-pattern pattern-name
-returns-4 c = ends-here (at-behind (c .before .before .before .before .before)) (added _ _ _ _ _ (c .before .before .push .ensures) (can-push (at-behind (c .before .before .before .before .before))))
-
 pub plain-pattern-spec : {M : Type 1} → statement M
+unfolding rule.plain-pattern pattern-name
 plain-pattern-spec =
     tie.close
     (tie.spec
     (λ c κs. search needs)
     (λ c. search needs)
     (λ c. search needs)
-    returns
+    (λ c. lost-here _ (enter (plain-pattern-pays) (c .before .before .before .before .before .pre)) refl (known read (c .before .before .skip .ensures) (c .enum-told .given .1)))
     (λ c κs. search needs)
     (λ c. search needs)
     (λ c. search needs)
-    returns-2
+    (λ c. lost-here _ (at-before2 (c .before .before .before .before)) refl (known taken (c .before .before .take-while .ensures) (c .enum-told2 .given .1)))
     (λ c κs. search needs)
     (λ c. search needs)
     (λ c. search needs)
-    returns-3
-    push-requires
-    same-length
-    returns-4)
+    (λ c. lost-here _ (at-name (c .before .before .before .before)) refl (known read (c .before .before .skip2 .ensures) (c .enum-told3 .given .1)))
+    (λ c κs. can-push (at-behind (c .before .before)))
+    (λ c. c .before .before .push .kept .0 ∙ (at-behind (c .before .before .before .before .before)) .size)
+    (λ c. ends-here (at-behind (c .before .before .before .before .before)) (added _ _ _ _ _ (c .before .before .push .ensures) (can-push (at-behind (c .before .before .before .before .before))))))

@@ -38,37 +38,8 @@ abbrev at-closed : (c : tie.After-closed) → Along (c .before .before .before .
 unfolding rule.sorted-pattern pattern-name
 at-closed c = bytes _ (at-name (c .before .before .before .before .before)) refl (known read (c .before .before .skip-word-skip .ensures) (c .closed .given .1))
 
-returns : tie.Need-returns
-unfolding rule.sorted-pattern pattern-name
-returns c = lost-here _ (enter (sorted-pattern-pays (c .before .before .before .before .before .before .args .sorted)) (c .before .before .before .before .before .before .pre)) refl (known read (c .before .before .skip-word .ensures) (c .enum-told .given .1))
-
-returns-2 : tie.Need-returns-2
-unfolding rule.sorted-pattern pattern-name
-returns-2 c = lost-here _ (at-opened (c .before .before .before .before)) refl (not-tag-lost _ (sym (c .before .starts .ensures) ∙ c .if1 .taken))
-
-returns-3 : tie.Need-returns-3
-unfolding rule.sorted-pattern pattern-name
-returns-3 c = lost-here _ (at-if1-left (c .before .before .before)) refl (known read (c .before .before .skip .ensures) (c .enum-told2 .given .1))
-
-returns-4 : tie.Need-returns-4
-unfolding rule.sorted-pattern pattern-name
-returns-4 c = lost-here _ (at-skipped (c .before .before .before .before)) refl (known taken (c .before .before .take-while .ensures) (c .enum-told3 .given .1))
-
-returns-5 : tie.Need-returns-5
-unfolding rule.sorted-pattern pattern-name
-returns-5 c = lost-here _ (at-name (c .before .before .before .before .before)) refl (known read (c .before .before .skip-word-skip .ensures) (c .enum-told4 .given .1))
-
-push-requires : tie.Need-push-requires
-push-requires c κs = can-push (at-closed (c .before .before))
-
-same-length : tie.Need-same-length
-same-length c = c .before .before .push .kept .0 ∙ (at-closed (c .before .before .before .before .before)) .size
-
-returns-6 : tie.Need-returns-6
-unfolding rule.sorted-pattern pattern-name
-returns-6 c = ends-here (at-closed (c .before .before .before .before .before)) (added _ _ _ _ _ (c .before .before .push .ensures) (can-push (at-closed (c .before .before .before .before .before))))
-
 pub sorted-pattern-spec : {M : Type 1} → statement M
+unfolding rule.sorted-pattern pattern-name
 sorted-pattern-spec =
     tie.close
     (tie.spec
@@ -76,23 +47,23 @@ sorted-pattern-spec =
     (λ c κs. search needs)
     (λ c. search needs)
     (λ c. search needs)
-    returns
+    (λ c. lost-here _ (enter (sorted-pattern-pays (c .before .before .before .before .before .before .args .sorted)) (c .before .before .before .before .before .before .pre)) refl (known read (c .before .before .skip-word .ensures) (c .enum-told .given .1)))
     (λ c. search needs)
     (λ c κs. search needs)
-    returns-2
-    (λ c κs. search needs)
-    (λ c. search needs)
-    (λ c. search needs)
-    returns-3
+    (λ c. lost-here _ (at-opened (c .before .before .before .before)) refl (not-tag-lost _ (sym (c .before .starts .ensures) ∙ c .if1 .taken)))
     (λ c κs. search needs)
     (λ c. search needs)
     (λ c. search needs)
-    returns-4
+    (λ c. lost-here _ (at-if1-left (c .before .before .before)) refl (known read (c .before .before .skip .ensures) (c .enum-told2 .given .1)))
+    (λ c κs. search needs)
+    (λ c. search needs)
+    (λ c. search needs)
+    (λ c. lost-here _ (at-skipped (c .before .before .before .before)) refl (known taken (c .before .before .take-while .ensures) (c .enum-told3 .given .1)))
     (λ c. search needs)
     (λ c κs. search needs)
     (λ c. search needs)
     (λ c. search needs)
-    returns-5
-    push-requires
-    same-length
-    returns-6)
+    (λ c. lost-here _ (at-name (c .before .before .before .before .before)) refl (known read (c .before .before .skip-word-skip .ensures) (c .enum-told4 .given .1)))
+    (λ c κs. can-push (at-closed (c .before .before)))
+    (λ c. c .before .before .push .kept .0 ∙ (at-closed (c .before .before .before .before .before)) .size)
+    (λ c. ends-here (at-closed (c .before .before .before .before .before)) (added _ _ _ _ _ (c .before .before .push .ensures) (can-push (at-closed (c .before .before .before .before .before))))))

@@ -29,17 +29,5 @@ unfolding among
 none b h k n =
     rw (ne-eqb b 40 h, ne-eqb b 41 k, ne-eqb b 123 (λ e. n (inr (inr (inl e)))), ne-eqb b 125 (λ e. n (inr (inr (inr e)))), ne-eqb b 59 (λ e. n (inr (inl e))), ne-eqb b 44 (λ e. n (inl e)))
 
-returns : tie.Need-returns
-returns c = sym (none _ (λ e. omega (arith, c .if1 .taken)) (λ e. omega (arith, c .if1 .taken)) (c .before .match .rest .1))
-
-returns-2 : tie.Need-returns-2
-returns-2 c = sym (none _ (λ e. omega (arith, c .if2 .left)) (λ e. omega (arith, c .if2 .left)) (c .before .before .match .rest .1))
-
-returns-3 : tie.Need-returns-3
-returns-3 c = sym (other _ (c .match .keys1))
-
-returns-4 : tie.Need-returns-4
-returns-4 c = sym (bracket _ (c .before .if1 .left) (c .if2 .taken))
-
 pub is-sign-spec : {M : Type 1} → statement M
-is-sign-spec = tie.close (tie.spec returns returns-2 returns-3 returns-4)
+is-sign-spec = tie.close (tie.spec (λ c. sym (none _ (λ e. omega (arith, c .if1 .taken)) (λ e. omega (arith, c .if1 .taken)) (c .before .match .rest .1))) (λ c. sym (none _ (λ e. omega (arith, c .if2 .left)) (λ e. omega (arith, c .if2 .left)) (c .before .before .match .rest .1))) (λ c. sym (other _ (c .match .keys1))) (λ c. sym (bracket _ (c .before .if1 .left) (c .if2 .taken))))

@@ -6,12 +6,6 @@ use lib.ListN.{length-set}
 use Rattle.held.proofs.note.Statement.{statement}
 use Rattle.held.proofs.note.Tie as tie
 
-slice-write-words-2 : tie.Need-slice-write-words-2
-slice-write-words-2 c = simp length-set (omega arith)
-
-returns : tie.Need-returns
-returns c = simp towards-suc
-
 pub note-spec : {M : Type 1} → statement M
 note-spec =
     tie.close
@@ -21,6 +15,6 @@ note-spec =
     (λ c. search needs)
     (λ c. search needs)
     (λ c. search needs)
-    slice-write-words-2
+    (λ c. simp length-set (omega arith))
     (λ c. search needs)
-    returns)
+    (λ c. simp towards-suc))

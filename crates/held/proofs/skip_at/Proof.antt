@@ -7,11 +7,5 @@ use Rattle.held.proofs.Placed.{placed}
 use Rattle.held.proofs.skip_at.Statement.{statement}
 use Rattle.held.proofs.skip_at.Tie as tie
 
-returns : tie.Need-returns
-returns c = (known read (c .before .before .skip .ensures) (c .enum-told .given .1), refl)
-
-returns-2 : tie.Need-returns-2
-returns-2 c = placed (known read (c .before .before .before .skip .ensures) (c .before .past .given .1))
-
 pub skip-at-spec : {M : Type 1} → statement M
-skip-at-spec = tie.close (tie.spec (λ c κs. search needs) (λ c. search needs) (λ c. search needs) returns returns-2)
+skip-at-spec = tie.close (tie.spec (λ c κs. search needs) (λ c. search needs) (λ c. search needs) (λ c. (known read (c .before .before .skip .ensures) (c .enum-told .given .1), refl)) (λ c. placed (known read (c .before .before .before .skip .ensures) (c .before .past .given .1))))

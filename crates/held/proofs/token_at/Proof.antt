@@ -7,11 +7,5 @@ use Rattle.held.proofs.Placed.{placed}
 use Rattle.held.proofs.token_at.Statement.{statement}
 use Rattle.held.proofs.token_at.Tie as tie
 
-returns : tie.Need-returns
-returns c = (known taken (c .before .before .token .ensures) (c .enum-told .given .1), refl)
-
-returns-2 : tie.Need-returns-2
-returns-2 c = placed (known taken (c .before .before .before .token .ensures) (c .before .found .given .1))
-
 pub token-at-spec : {M : Type 1} → statement M
-token-at-spec = tie.close (tie.spec (λ c κs. search needs) (λ c. search needs) (λ c. search needs) returns returns-2)
+token-at-spec = tie.close (tie.spec (λ c κs. search needs) (λ c. search needs) (λ c. search needs) (λ c. (known taken (c .before .before .token .ensures) (c .enum-told .given .1), refl)) (λ c. placed (known taken (c .before .before .before .token .ensures) (c .before .found .given .1))))

@@ -12,67 +12,29 @@ Inv-loop script words₀ at₀ count₀ turns₀ words at count turns = Going sc
 abbrev μ-loop : tie.MeasureT-loop
 μ-loop script words₀ at₀ count₀ turns₀ words at count turns = turns
 
-returns : tie.Need-returns Inv-loop μ-loop
-returns c = both (short _ _ (c .if1 .taken))
-
-loop-holds : tie.Need-loop-holds Inv-loop μ-loop
-loop-holds c = set-out _ _ (c .if1 .left)
-
-note-requires : tie.Need-note-requires Inv-loop μ-loop
-note-requires c κs =
-    let entry = c .before .before .before .before .before in
-    omega (arith, entry .before .loop .inv .room, entry .loop-test .taken)
-
-add-count : tie.Need-add-count Inv-loop μ-loop
-add-count c = omega (arith, c .before .before .before .before .before .before .before .before .before .loop .inv .room)
-
-loop-again : tie.Need-loop-again Inv-loop μ-loop
-loop-again c =
-    let next = c .before .before .before .before .before in
-    let turn = next .before .before in
-    on-token (turn .before .before .loop .inv) (turn .before .loop-test .taken) (sym (turn .turn-at .ensures) ∙ next .next .given .1) (c .before .before .note .ensures)
-
-loop-again-2 : tie.Need-loop-again-2 Inv-loop μ-loop
-loop-again-2 c =
-    let turn = c .before .before .before in
-    on-sign (turn .before .before .loop .inv) (turn .before .loop-test .taken) (sym (turn .turn-at .ensures) ∙ c .before .next2 .given .1)
-
-returns-2 : tie.Need-returns-2 Inv-loop μ-loop
-returns-2 c =
-    let turn = c .before .before in
-    both (at-end (turn .before .before .loop .inv) (turn .before .loop-test .taken) (sym (turn .turn-at .ensures) ∙ c .enum-told .given .1))
-
-returns-3 : tie.Need-returns-3 Inv-loop μ-loop
-returns-3 c =
-    let turn = c .before .before .before in
-    both (at-stop (turn .before .before .loop .inv) (turn .before .loop-test .taken) (sym (turn .turn-at .ensures) ∙ c .before .next3 .given .1))
-
-returns-4 : tie.Need-returns-4 Inv-loop μ-loop
-returns-4 c = both (out (c .before .loop .inv) (c .loop-test .left))
-
 pub tokens-spec : {M : Type 1} → statement M
 tokens-spec =
     tie.close
     (tie.spec
     Inv-loop
     μ-loop
-    returns
-    loop-holds
+    (λ c. both (short _ _ (c .if1 .taken)))
+    (λ c. set-out _ _ (c .if1 .left))
     (λ c. search needs)
     (λ c κs. search needs)
     (λ c. search needs)
-    note-requires
-    add-count
+    (λ c κs. let entry = c .before .before .before .before .before in omega (arith, entry .before .loop .inv .room, entry .loop-test .taken))
+    (λ c. omega (arith, c .before .before .before .before .before .before .before .before .before .loop .inv .room))
     (λ c. search needs)
-    loop-again
+    (λ c. let next = c .before .before .before .before .before in let turn = next .before .before in on-token (turn .before .before .loop .inv) (turn .before .loop-test .taken) (sym (turn .turn-at .ensures) ∙ next .next .given .1) (c .before .before .note .ensures))
     (λ c. search needs)
     (λ c. search needs)
-    loop-again-2
+    (λ c. let turn = c .before .before .before in on-sign (turn .before .before .loop .inv) (turn .before .loop-test .taken) (sym (turn .turn-at .ensures) ∙ c .before .next2 .given .1))
     (λ c. search needs)
     (λ c. c .before .before .before .before .loop .inv .size)
-    returns-2
+    (λ c. let turn = c .before .before in both (at-end (turn .before .before .loop .inv) (turn .before .loop-test .taken) (sym (turn .turn-at .ensures) ∙ c .enum-told .given .1)))
     (λ c. search needs)
     (λ c. c .before .before .before .before .before .loop .inv .size)
-    returns-3
+    (λ c. let turn = c .before .before .before in both (at-stop (turn .before .before .loop .inv) (turn .before .loop-test .taken) (sym (turn .turn-at .ensures) ∙ c .before .next3 .given .1)))
     (λ c. c .before .loop .inv .size)
-    returns-4)
+    (λ c. both (out (c .before .loop .inv) (c .loop-test .left))))

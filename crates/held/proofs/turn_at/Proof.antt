@@ -11,25 +11,6 @@ use Rattle.held.proofs.turn_at.Tie as tie
 abbrev absent : (c : tie.After-step3) → Comes (c .before .before .before .before .args .script .now) (c .before .before .before .before .args .at) (Absent (c .step3 .given .0 .0))
 absent c = subst (Comes _ _) (c .step3 .given .1) (c .before .before .next-token .ensures)
 
-returns : tie.Need-returns
-returns c = sym (end-turn (absent (c .before .before)) (c .if1 .taken))
-
-returns-2 : tie.Need-returns-2
-returns-2 c =
-    let more = c .before .before .before in
-    sym (sign-turn (absent (more .before .before)) (more .if1 .left) (sym (c .before .is-sign .ensures) ∙ c .if2 .taken))
-
-returns-3 : tie.Need-returns-3
-returns-3 c = sym (token-turn (subst (Comes _ _) (c .before .step .given .1) (c .before .before .before .next-token .ensures)))
-
-returns-4 : tie.Need-returns-4
-returns-4 c = sym (unended-turn (subst (Comes _ _) (c .before .step2 .given .1) (c .before .before .before .next-token .ensures)))
-
-returns-5 : tie.Need-returns-5
-returns-5 c =
-    let more = c .before .before .before in
-    sym (stop-turn (absent (more .before .before)) (more .if1 .left) (sym (c .before .is-sign .ensures) ∙ c .if2 .left))
-
 pub turn-at-spec : {M : Type 1} → statement M
 turn-at-spec =
     tie.close
@@ -38,11 +19,11 @@ turn-at-spec =
     (λ c. search needs)
     (λ c. search needs)
     (λ c. search needs)
-    returns
+    (λ c. sym (end-turn (absent (c .before .before)) (c .if1 .taken)))
     (λ c. search needs)
     (λ c κs. search needs)
     (λ c. search needs)
-    returns-2
-    returns-3
-    returns-4
-    returns-5)
+    (λ c. let more = c .before .before .before in sym (sign-turn (absent (more .before .before)) (more .if1 .left) (sym (c .before .is-sign .ensures) ∙ c .if2 .taken)))
+    (λ c. sym (token-turn (subst (Comes _ _) (c .before .step .given .1) (c .before .before .before .next-token .ensures))))
+    (λ c. sym (unended-turn (subst (Comes _ _) (c .before .step2 .given .1) (c .before .before .before .next-token .ensures))))
+    (λ c. let more = c .before .before .before in sym (stop-turn (absent (more .before .before)) (more .if1 .left) (sym (c .before .is-sign .ensures) ∙ c .if2 .left))))

@@ -16,13 +16,6 @@ unfolding is-capital
 empty [] e = refl
 empty (b ∷ l) e = absurd (let z : suc (length l) ≡ 0 = e in omega arith)
 
-returns : tie.Need-returns
-unfolding is-capital
-returns c = empty (c .before .before .args .l .now) (c .if1 .taken)
-
-returns-2 : tie.Need-returns-2
-unfolding is-capital
-returns-2 c = c .between .ensures
-
 pub capital-spec : {M : Type 1} → statement M
-capital-spec = tie.close (tie.spec returns (λ c. search needs) (λ c κs. search needs) returns-2)
+unfolding is-capital
+capital-spec = tie.close (tie.spec (λ c. empty (c .before .before .args .l .now) (c .if1 .taken)) (λ c. search needs) (λ c κs. search needs) (λ c. c .between .ensures))

@@ -6,9 +6,6 @@ use Rattle.keywords.specs.Words.{flat, table}
 use Rattle.keywords.proofs.in_table.Statement.{statement}
 use Rattle.keywords.proofs.in_table.Tie as tie
 
-looked-up-requires : tie.Need-looked-up-requires
-unfolding table flat keywords
-looked-up-requires c κs = (refl, refl)
-
 pub in-table-spec : {M : Type 1} → statement M
-in-table-spec = tie.close (tie.spec (λ c. search needs) (λ c. search needs) looked-up-requires (λ c. search needs))
+unfolding table flat keywords
+in-table-spec = tie.close (tie.spec (λ c. search needs) (λ c. search needs) (λ c κs. (refl, refl)) (λ c. search needs))

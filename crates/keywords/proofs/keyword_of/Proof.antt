@@ -5,13 +5,10 @@ use borrow.Author.Needs.{needs}
 use Rattle.keywords.proofs.keyword_of.Statement.{statement}
 use Rattle.keywords.proofs.keyword_of.Tie as tie
 
-returns : tie.Need-returns
-returns c = c .keyword .ensures ∙ ap keyword-of (c .before .part .ensures)
-
 pub keyword-of-spec : {M : Type 1} → statement M
 keyword-of-spec =
     tie.close
     (tie.spec
     (λ c κs. search needs)
     (λ c κs. search needs)
-    returns)
+    (λ c. c .keyword .ensures ∙ ap keyword-of (c .before .part .ensures)))

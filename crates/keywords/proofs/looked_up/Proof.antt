@@ -17,34 +17,9 @@ abbrev μ-loop : tie.MeasureT-loop
 abbrev start : tie.In-loop Inv-loop μ-loop → tie.Start Inv-loop μ-loop
 start c = c .before .before .before .before .before
 
-read-len : tie.Need-shared-slice-read-len Inv-loop μ-loop
-read-len c = measured (start (c .before) .pre .1) (c .before .loop-test .taken)
-
 -- the next word begins inside the table
 abbrev fits : (c : tie.In-loop Inv-loop μ-loop) → c .before .loop .at + getD (start c .args .lengths .now) (c .before .loop .n) 0 + 1 ≤ 402
 fits c = room (c .before .loop .inv) (c .loop-test .taken) (start c .pre .1) refl
-
-cast-len : tie.Need-cast-len Inv-loop μ-loop
-cast-len c = let r = fits (c .before) in record { fits = omega arith }
-
-returns : tie.Need-returns Inv-loop μ-loop
-returns c =
-    let turn = c .before .before .before .before in
-    sym (hit (turn .before .loop .inv) (turn .loop-test .taken) (start turn .pre .1) refl (start turn .pre .0) (c .before .before .part .ensures) (c .before .same .ensures) (c .if1 .taken))
-
-add-at : tie.Need-add-at Inv-loop μ-loop
-add-at c = let r = fits (c .before .before .before .before) in record { fits = omega arith }
-
-add-at-2 : tie.Need-add-at-2 Inv-loop μ-loop
-add-at-2 c = let r = fits (c .before .before .before .before) in record { fits = omega arith }
-
-loop-again : tie.Need-loop-again Inv-loop μ-loop
-loop-again c =
-    let turn = c .before .before .before .before in
-    missed (turn .before .loop .inv) (turn .loop-test .taken) (start turn .pre .1) refl (start turn .pre .0) (c .before .before .part .ensures) (c .before .same .ensures) (c .if1 .left)
-
-returns-2 : tie.Need-returns-2 Inv-loop μ-loop
-returns-2 c = sym (ended _ _ _ (c .before .loop .inv) (c .loop-test .left))
 
 pub looked-up-spec : {M : Type 1} → statement M
 looked-up-spec =
@@ -53,15 +28,15 @@ looked-up-spec =
     Inv-loop
     μ-loop
     (λ c. begun _)
-    read-len
-    cast-len
+    (λ c. measured (start (c .before) .pre .1) (c .before .loop-test .taken))
+    (λ c. let r = fits (c .before) in record { fits = omega arith })
     (λ c κs. search needs)
     (λ c κs. search needs)
     (λ c. search needs)
-    returns
-    add-at
-    add-at-2
+    (λ c. let turn = c .before .before .before .before in sym (hit (turn .before .loop .inv) (turn .loop-test .taken) (start turn .pre .1) refl (start turn .pre .0) (c .before .before .part .ensures) (c .before .same .ensures) (c .if1 .taken)))
+    (λ c. let r = fits (c .before .before .before .before) in record { fits = omega arith })
+    (λ c. let r = fits (c .before .before .before .before) in record { fits = omega arith })
     (λ c. search needs)
     (λ c. search needs)
-    loop-again
-    returns-2)
+    (λ c. let turn = c .before .before .before .before in missed (turn .before .loop .inv) (turn .loop-test .taken) (start turn .pre .1) refl (start turn .pre .0) (c .before .before .part .ensures) (c .before .same .ensures) (c .if1 .left))
+    (λ c. sym (ended _ _ _ (c .before .loop .inv) (c .loop-test .left))))

@@ -4,14 +4,11 @@ use Rattle.rules.specs.Expressions.{expression}
 use Rattle.ladder.proofs.expression.Statement.{statement}
 use Rattle.ladder.proofs.expression.Tie as tie
 
-returns : tie.Need-returns
-unfolding expression
-returns c = c .before .before .ternary .ensures
-
 pub expression-spec : {M : Type 1} → statement M
+unfolding expression
 expression-spec =
     tie.close
     (tie.spec
     (λ c κs. search needs)
     (λ c. search needs)
-    returns)
+    (λ c. c .before .before .ternary .ensures))

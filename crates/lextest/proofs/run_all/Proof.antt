@@ -21,12 +21,6 @@ ahead :
     (c .case .given .0 .1 .1 .1 .0 ≤ length (c .before .before .before .before .before .before .args .input .now))
 ahead c = subst (Ahead _ _) (c .case .given .1) (c .before .before .case-at .ensures)
 
-loop-less : tie.Need-loop-less Inv-loop μ-loop
-loop-less c = omega (arith, ahead (c .before .before .before .before))
-
-loop-again : tie.Need-loop-again Inv-loop μ-loop
-loop-again c = let a = ahead (c .before .before .before .before) in (omega arith, omega arith)
-
 pub run-all-spec : {M : Type 1} → statement M
 run-all-spec =
     tie.close
@@ -45,6 +39,6 @@ run-all-spec =
     (λ c κs. search needs)
     (λ c κs. search needs)
     (λ c. search needs)
-    loop-less
-    loop-again
+    (λ c. omega (arith, ahead (c .before .before .before .before)))
+    (λ c. let a = ahead (c .before .before .before .before) in (omega arith, omega arith))
     (λ c. search needs))

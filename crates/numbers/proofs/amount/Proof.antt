@@ -22,63 +22,21 @@ small c =
     let start = c .before .before .before .before .before in
     omega (arith, c .digit .ensures, digit-small (getD (start .args .l .now) (c .before .before .before .loop .i) 0))
 
-loop-holds : tie.Need-loop-holds Inv-loop μ-loop
-loop-holds c = (refl, omega arith, omega arith)
-
-sub-if1 : tie.Need-sub-if1 Inv-loop μ-loop
-sub-if1 c = small c
-
-div-if1 : tie.Need-div-if1 Inv-loop μ-loop
-div-if1 c =
-    let start = c .before .before .before .before .before in
-    start .pre
-
-returns : tie.Need-returns Inv-loop μ-loop
-returns c =
-    let start = c .before .before .before .before .before .before in
-    let digit = c .before .digit in
-    let start = start in
-    let loop = c .before .before .before .before .loop in
-    omega (arith, loop .inv .0, written-on (start .args .base) (loop .v) (start .args .l .now) (loop .i) (c .before .before .before .loop-test .taken), written-grows (start .args .base) (loop .v * start .args .base + digit-of (getD (start .args .l .now) (loop .i) 0)) (drop (loop .i + 1) (start .args .l .now)) (start .pre), passes 18446744073709551615 (loop .v) (start .args .base) (digit .result) (start .pre) (small (c .before)) (c .if1 .taken), digit .ensures)
-
-mul-v : tie.Need-mul-v Inv-loop μ-loop
-mul-v c =
-    let start = c .before .before .before .before .before .before in
-    let k = fits 18446744073709551615 (c .before .before .before .before .loop .v) (start .args .base) (c .before .digit .result) (start .pre) (small (c .before)) (c .if1 .left) in record { fits = omega arith }
-
-add-v : tie.Need-add-v Inv-loop μ-loop
-add-v c =
-    let start = c .before .before .before .before .before .before in
-    let k = fits 18446744073709551615 (c .before .before .before .before .loop .v) (start .args .base) (c .before .digit .result) (start .pre) (small (c .before)) (c .if1 .left) in record { fits = omega arith }
-
-loop-again : tie.Need-loop-again Inv-loop μ-loop
-loop-again c =
-    let loop = c .before .before .before .before .loop in
-    let start = c .before .before .before .before .before .before in
-    let digit = c .before .digit in
-    let k = fits 18446744073709551615 (loop .v) (start .args .base) (digit .result) (start .pre) (small (c .before)) (c .if1 .left) in
-    (loop .inv .0 ∙ written-on _ _ _ _ (c .before .before .before .loop-test .taken) ∙ ap (λ d. written (start .args .base) (loop .v * start .args .base + d) (drop (loop .i + 1) (start .args .l .now))) (sym (digit .ensures)), omega arith, omega arith)
-
-returns-2 : tie.Need-returns-2 Inv-loop μ-loop
-returns-2 c =
-    let w = c .before .loop .inv .0 ∙ written-end _ _ _ _ (c .loop-test .left) in
-    (w, omega arith)
-
 pub amount-spec : {M : Type 1} → statement M
 amount-spec =
     tie.close
     (tie.spec
     Inv-loop
     μ-loop
-    loop-holds
+    (λ c. (refl, omega arith, omega arith))
     (λ c. search needs)
     (λ c κs. search needs)
-    sub-if1
-    div-if1
-    returns
-    mul-v
-    add-v
+    (λ c. small c)
+    (λ c. let start = c .before .before .before .before .before in start .pre)
+    (λ c. let start = c .before .before .before .before .before .before in let digit = c .before .digit in let start = start in let loop = c .before .before .before .before .loop in omega (arith, loop .inv .0, written-on (start .args .base) (loop .v) (start .args .l .now) (loop .i) (c .before .before .before .loop-test .taken), written-grows (start .args .base) (loop .v * start .args .base + digit-of (getD (start .args .l .now) (loop .i) 0)) (drop (loop .i + 1) (start .args .l .now)) (start .pre), passes 18446744073709551615 (loop .v) (start .args .base) (digit .result) (start .pre) (small (c .before)) (c .if1 .taken), digit .ensures))
+    (λ c. let start = c .before .before .before .before .before .before in let k = fits 18446744073709551615 (c .before .before .before .before .loop .v) (start .args .base) (c .before .digit .result) (start .pre) (small (c .before)) (c .if1 .left) in record { fits = omega arith })
+    (λ c. let start = c .before .before .before .before .before .before in let k = fits 18446744073709551615 (c .before .before .before .before .loop .v) (start .args .base) (c .before .digit .result) (start .pre) (small (c .before)) (c .if1 .left) in record { fits = omega arith })
     (λ c. search needs)
     (λ c. search needs)
-    loop-again
-    returns-2)
+    (λ c. let loop = c .before .before .before .before .loop in let start = c .before .before .before .before .before .before in let digit = c .before .digit in let k = fits 18446744073709551615 (loop .v) (start .args .base) (digit .result) (start .pre) (small (c .before)) (c .if1 .left) in (loop .inv .0 ∙ written-on _ _ _ _ (c .before .before .before .loop-test .taken) ∙ ap (λ d. written (start .args .base) (loop .v * start .args .base + d) (drop (loop .i + 1) (start .args .l .now))) (sym (digit .ensures)), omega arith, omega arith))
+    (λ c. let w = c .before .loop .inv .0 ∙ written-end _ _ _ _ (c .loop-test .left) in (w, omega arith)))

@@ -7,25 +7,8 @@ use Rattle.lex.proofs.Lexes.{known, then-on, stop, first, second, given}
 use Rattle.numbers.proofs.base_number_at.Statement.{statement}
 use Rattle.numbers.proofs.base_number_at.Tie as tie
 
-returns : tie.Need-returns
-unfolding base-number
-returns c = second (stop _ (known read (c .before .before .before .either .ensures) (c .before .enum-told .given .1))) (c .dec-uint .ensures)
-
-returns-2 : tie.Need-returns-2
-unfolding base-number
-returns-2 c =
-    let either = c .before .before .before .before .before .before .before .either in
-    let prefix = c .before .before .before .before .before .prefix in
-    second (then-on _ (known read (either .ensures) (prefix .given .1)) (known valued (c .before .before .before .hex-uint .ensures) (c .before .enum-told2 .given .1))) (c .dec-uint2 .ensures)
-
-returns-3 : tie.Need-returns-3
-unfolding base-number
-returns-3 c =
-    let either = c .before .before .before .before .before .before .before .either in
-    let prefix = c .before .before .before .before .before .prefix in
-    first _ (then-on _ (known read (either .ensures) (prefix .given .1)) (known valued (c .before .before .before .hex-uint .ensures) (c .before .hex .given .1)))
-
 pub base-number-at-spec : {M : Type 1} → statement M
+unfolding base-number
 base-number-at-spec =
     tie.close
     (tie.spec
@@ -35,10 +18,10 @@ base-number-at-spec =
     (λ c. search needs)
     (λ c. search needs)
     (λ c κs. search needs)
-    returns
+    (λ c. second (stop _ (known read (c .before .before .before .either .ensures) (c .before .enum-told .given .1))) (c .dec-uint .ensures))
     (λ c κs. search needs)
     (λ c. search needs)
     (λ c. search needs)
     (λ c κs. search needs)
-    returns-2
-    returns-3)
+    (λ c. let either = c .before .before .before .before .before .before .before .either in let prefix = c .before .before .before .before .before .prefix in second (then-on _ (known read (either .ensures) (prefix .given .1)) (known valued (c .before .before .before .hex-uint .ensures) (c .before .enum-told2 .given .1))) (c .dec-uint2 .ensures))
+    (λ c. let either = c .before .before .before .before .before .before .before .either in let prefix = c .before .before .before .before .before .prefix in first _ (then-on _ (known read (either .ensures) (prefix .given .1)) (known valued (c .before .before .before .hex-uint .ensures) (c .before .hex .given .1)))))

@@ -9,49 +9,8 @@ use Rattle.numbers.proofs.Fitting.{fitting, passing}
 use Rattle.numbers.proofs.dec_uint.Statement.{statement}
 use Rattle.numbers.proofs.dec_uint.Tie as tie
 
-returns : tie.Need-returns
-unfolding dec-uint
-returns c =
-    let starts = c .before .before .before .before .before .starts in
-    then-on _ (asked "0" (starts .ensures)) (chosen _ (c .before .before .before .before .if1 .taken) (stop _ (known read (c .before .before .word .ensures) (c .enum-told .given .1))))
-
-returns-2 : tie.Need-returns-2
-unfolding dec-uint
-returns-2 c =
-    let starts = c .before .before .before .before .before .before .starts in
-    let if1 = c .before .before .before .before .before .if1 in
-    then-on _ (asked "0" (starts .ensures)) (chosen _ (if1 .taken) (then-on _ (known read (c .before .before .before .word .ensures) (c .before .zero .given .1)) (given 0)))
-
-returns-3 : tie.Need-returns-3
-unfolding dec-uint
-returns-3 c =
-    let starts = c .before .before .before .before .starts in
-    then-on _ (asked "0" (starts .ensures)) (passed-over _ (c .before .before .before .if1 .left) (stop _ (known taken (c .before .before .take-while .ensures) (c .enum-told2 .given .1))))
-
-returns-4 : tie.Need-returns-4
-unfolding dec-uint
-returns-4 c =
-    let take-while = c .before .before .before .before .before .before .before .take-while in
-    let digits = c .before .before .before .before .before .digits in
-    let starts = c .before .before .before .before .before .before .before .before .before .starts in
-    let if1 = c .before .before .before .before .before .before .before .before .if1 in
-    let x = known taken (take-while .ensures) (digits .given .1) in
-    then-on _ (asked "0" (starts .ensures)) (passed-over _ (if1 .left)
-    (then-on _ x (then-on _ (named _) (passed-over _ (le-ltb _ _ (passing is-digit x 10 (c .before .before .before .part .ensures) (c .before .before .amount .ensures) (c .enum-told3 .given .1))) refused))))
-
-returns-5 : tie.Need-returns-5
-unfolding dec-uint
-returns-5 c =
-    let take-while = c .before .before .before .before .before .before .before .before .take-while in
-    let digits = c .before .before .before .before .before .before .digits in
-    let starts = c .before .before .before .before .before .before .before .before .before .before .starts in
-    let if1 = c .before .before .before .before .before .before .before .before .before .if1 in
-    let x = known taken (take-while .ensures) (digits .given .1) in
-    let w = fitting is-digit x 10 (c .before .before .before .before .part .ensures) (c .before .before .before .amount .ensures) (c .before .v .given .1) in
-    then-on _ (asked "0" (starts .ensures)) (passed-over _ (if1 .left)
-    (then-on _ x (then-on _ (named _) (chosen _ (lt-ltb _ _ (w .1)) (given-as (w .0))))))
-
 pub dec-uint-spec : {M : Type 1} → statement M
+unfolding dec-uint
 dec-uint-spec =
     tie.close
     (tie.spec
@@ -61,15 +20,15 @@ dec-uint-spec =
     (λ c κs. search needs)
     (λ c. search needs)
     (λ c. search needs)
-    returns
-    returns-2
+    (λ c. let starts = c .before .before .before .before .before .starts in then-on _ (asked "0" (starts .ensures)) (chosen _ (c .before .before .before .before .if1 .taken) (stop _ (known read (c .before .before .word .ensures) (c .enum-told .given .1)))))
+    (λ c. let starts = c .before .before .before .before .before .before .starts in let if1 = c .before .before .before .before .before .if1 in then-on _ (asked "0" (starts .ensures)) (chosen _ (if1 .taken) (then-on _ (known read (c .before .before .before .word .ensures) (c .before .zero .given .1)) (given 0))))
     (λ c κs. search needs)
     (λ c. search needs)
     (λ c. search needs)
-    returns-3
+    (λ c. let starts = c .before .before .before .before .starts in then-on _ (asked "0" (starts .ensures)) (passed-over _ (c .before .before .before .if1 .left) (stop _ (known taken (c .before .before .take-while .ensures) (c .enum-told2 .given .1)))))
     (λ c κs. search needs)
     (λ c κs. search needs)
     (λ c. search needs)
     (λ c. search needs)
-    returns-4
-    returns-5)
+    (λ c. let take-while = c .before .before .before .before .before .before .before .take-while in let digits = c .before .before .before .before .before .digits in let starts = c .before .before .before .before .before .before .before .before .before .starts in let if1 = c .before .before .before .before .before .before .before .before .if1 in let x = known taken (take-while .ensures) (digits .given .1) in then-on _ (asked "0" (starts .ensures)) (passed-over _ (if1 .left) (then-on _ x (then-on _ (named _) (passed-over _ (le-ltb _ _ (passing is-digit x 10 (c .before .before .before .part .ensures) (c .before .before .amount .ensures) (c .enum-told3 .given .1))) refused)))))
+    (λ c. let take-while = c .before .before .before .before .before .before .before .before .take-while in let digits = c .before .before .before .before .before .before .digits in let starts = c .before .before .before .before .before .before .before .before .before .before .starts in let if1 = c .before .before .before .before .before .before .before .before .before .if1 in let x = known taken (take-while .ensures) (digits .given .1) in let w = fitting is-digit x 10 (c .before .before .before .before .part .ensures) (c .before .before .before .amount .ensures) (c .before .v .given .1) in then-on _ (asked "0" (starts .ensures)) (passed-over _ (if1 .left) (then-on _ x (then-on _ (named _) (chosen _ (lt-ltb _ _ (w .1)) (given-as (w .0))))))))

@@ -6,26 +6,8 @@ use Rattle.operators.specs.Answers.{operated}
 use Rattle.operators.proofs.comparison.Statement.{statement}
 use Rattle.operators.proofs.comparison.Tie as tie
 
-returns : tie.Need-returns
-unfolding comparison-rule
-returns c =
-    let sign-of-two = c .before .before .before .before .before .before .before .before .before .before .sign-of-two in
-    let enum-told = c .before .before .before .before .before .before .before .before .enum-told in
-    let sign-of-two2 = c .before .before .before .before .before .sign-of-two2 in
-    second (known operated (sign-of-two .ensures) (enum-told .given .1)) (second (known operated (sign-of-two2 .ensures) (c .before .before .before .enum-told2 .given .1)) (c .sign-of-two3 .ensures))
-
-returns-2 : tie.Need-returns-2
-unfolding comparison-rule
-returns-2 c =
-    let sign-of-two = c .before .before .before .before .before .before .before .before .sign-of-two in
-    let enum-told = c .before .before .before .before .before .before .enum-told in
-    second (known operated (sign-of-two .ensures) (enum-told .given .1)) (first _ (known operated (c .before .before .before .sign-of-two2 .ensures) (c .before .same .given .1)))
-
-returns-3 : tie.Need-returns-3
-unfolding comparison-rule
-returns-3 c = first _ (known operated (c .before .before .before .sign-of-two .ensures) (c .before .order .given .1))
-
 pub comparison-spec : {M : Type 1} → statement M
+unfolding comparison-rule
 comparison-spec =
     tie.close
     (tie.spec
@@ -42,6 +24,6 @@ comparison-spec =
     (λ c. search needs)
     (λ c. search needs)
     (λ c κs. search needs)
-    returns
-    returns-2
-    returns-3)
+    (λ c. let sign-of-two = c .before .before .before .before .before .before .before .before .before .before .sign-of-two in let enum-told = c .before .before .before .before .before .before .before .before .enum-told in let sign-of-two2 = c .before .before .before .before .before .sign-of-two2 in second (known operated (sign-of-two .ensures) (enum-told .given .1)) (second (known operated (sign-of-two2 .ensures) (c .before .before .before .enum-told2 .given .1)) (c .sign-of-two3 .ensures)))
+    (λ c. let sign-of-two = c .before .before .before .before .before .before .before .before .sign-of-two in let enum-told = c .before .before .before .before .before .before .enum-told in second (known operated (sign-of-two .ensures) (enum-told .given .1)) (first _ (known operated (c .before .before .before .sign-of-two2 .ensures) (c .before .same .given .1))))
+    (λ c. first _ (known operated (c .before .before .before .sign-of-two .ensures) (c .before .order .given .1))))

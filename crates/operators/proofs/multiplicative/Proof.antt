@@ -5,14 +5,6 @@ use Rattle.operators.specs.Answers.{operated}
 use Rattle.operators.proofs.multiplicative.Statement.{statement}
 use Rattle.operators.proofs.multiplicative.Tie as tie
 
-returns : tie.Need-returns
-returns c =
-    let sign = c .before .before .before .before .before .sign in
-    second (known operated (sign .ensures) (c .before .before .before .enum-told .given .1)) (c .sign-of-two .ensures)
-
-returns-2 : tie.Need-returns-2
-returns-2 c = first _ (known operated (c .before .before .before .sign .ensures) (c .before .times .given .1))
-
 pub multiplicative-spec : {M : Type 1} → statement M
 multiplicative-spec =
     tie.close
@@ -24,5 +16,5 @@ multiplicative-spec =
     (λ c. search needs)
     (λ c. search needs)
     (λ c κs. search needs)
-    returns
-    returns-2)
+    (λ c. let sign = c .before .before .before .before .before .sign in second (known operated (sign .ensures) (c .before .before .before .enum-told .given .1)) (c .sign-of-two .ensures))
+    (λ c. first _ (known operated (c .before .before .before .sign .ensures) (c .before .times .given .1))))

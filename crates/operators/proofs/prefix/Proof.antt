@@ -6,17 +6,8 @@ use Rattle.operators.specs.Answers.{operated}
 use Rattle.operators.proofs.prefix.Statement.{statement}
 use Rattle.operators.proofs.prefix.Tie as tie
 
-returns : tie.Need-returns
-unfolding prefix-rule
-returns c =
-    let sign-unless = c .before .before .before .before .before .sign-unless in
-    second (known operated (sign-unless .ensures) (c .before .before .before .enum-told .given .1)) (c .sign-of-two .ensures)
-
-returns-2 : tie.Need-returns-2
-unfolding prefix-rule
-returns-2 c = first _ (known operated (c .before .before .before .sign-unless .ensures) (c .before .negated .given .1))
-
 pub prefix-spec : {M : Type 1} → statement M
+unfolding prefix-rule
 prefix-spec =
     tie.close
     (tie.spec
@@ -28,5 +19,5 @@ prefix-spec =
     (λ c. search needs)
     (λ c. search needs)
     (λ c κs. search needs)
-    returns
-    returns-2)
+    (λ c. let sign-unless = c .before .before .before .before .before .sign-unless in second (known operated (sign-unless .ensures) (c .before .before .before .enum-told .given .1)) (c .sign-of-two .ensures))
+    (λ c. first _ (known operated (c .before .before .before .sign-unless .ensures) (c .before .negated .given .1))))

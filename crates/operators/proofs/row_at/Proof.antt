@@ -4,13 +4,7 @@ use Rattle.lex.proofs.Lexes.{given}
 use Rattle.operators.proofs.row_at.Statement.{statement}
 use Rattle.operators.proofs.row_at.Tie as tie
 
-returns : tie.Need-returns
-returns c = rw (c .before .enum-told .given .1) (c .wild-row .ensures)
-
-returns-2 : tie.Need-returns-2
-returns-2 c = rw (c .before .enum-told2 .given .1) (c .book-row .ensures)
-
 pub row-at-spec : {M : Type 1} → statement M
 row-at-spec =
     tie.close
-    (tie.spec (λ c. search needs) (λ c κs. search needs) (λ c. search needs) (λ c κs. search needs) returns returns-2)
+    (tie.spec (λ c. search needs) (λ c κs. search needs) (λ c. search needs) (λ c κs. search needs) (λ c. rw (c .before .enum-told .given .1) (c .wild-row .ensures)) (λ c. rw (c .before .enum-told2 .given .1) (c .book-row .ensures)))

@@ -6,13 +6,6 @@ use Rattle.lex.proofs.Lexes.{known, then-on, stop, given}
 use Rattle.operators.proofs.sign.Statement.{statement}
 use Rattle.operators.proofs.sign.Tie as tie
 
-returns : tie.Need-returns
-unfolding signed
-returns c = stop _ (known read (c .before .before .word .ensures) (c .enum-told .given .1))
-
-returns-2 : tie.Need-returns-2
-unfolding signed
-returns-2 c = then-on _ (known read (c .before .before .before .word .ensures) (c .before .here .given .1)) (given _)
-
 pub sign-spec : {M : Type 1} → statement M
-sign-spec = tie.close (tie.spec (λ c κs. search needs) (λ c. search needs) (λ c. search needs) returns returns-2)
+unfolding signed
+sign-spec = tie.close (tie.spec (λ c κs. search needs) (λ c. search needs) (λ c. search needs) (λ c. stop _ (known read (c .before .before .word .ensures) (c .enum-told .given .1))) (λ c. then-on _ (known read (c .before .before .before .word .ensures) (c .before .here .given .1)) (given _)))

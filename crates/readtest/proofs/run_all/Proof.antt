@@ -14,16 +14,6 @@ Inv-loop input script₀ tape₀ at₀ k₀ t15 script tape at k = (at ≤ lengt
 abbrev μ-loop : tie.MeasureT-loop
 μ-loop input script₀ tape₀ at₀ k₀ t15 script tape at k = length input - at
 
-loop-less : tie.Need-loop-less Inv-loop μ-loop
-loop-less c =
-    let ends = subst (Ahead _ _) (c .before .before .before .before .before .before .before .before .case .given .1) (c .before .before .before .before .before .before .before .before .before .before .case-at .ensures) in
-    omega arith
-
-loop-again : tie.Need-loop-again Inv-loop μ-loop
-loop-again c =
-    let ends = subst (Ahead _ _) (c .before .before .before .before .before .before .before .before .case .given .1) (c .before .before .before .before .before .before .before .before .before .before .case-at .ensures) in
-    (omega arith, omega arith)
-
 pub run-all-spec : {M : Type 1} → statement M
 run-all-spec =
     tie.close
@@ -44,6 +34,6 @@ run-all-spec =
     (λ c κs. search needs)
     (λ c κs. search needs)
     (λ c. search needs)
-    loop-less
-    loop-again
+    (λ c. let ends = subst (Ahead _ _) (c .before .before .before .before .before .before .before .before .case .given .1) (c .before .before .before .before .before .before .before .before .before .before .case-at .ensures) in omega arith)
+    (λ c. let ends = subst (Ahead _ _) (c .before .before .before .before .before .before .before .before .case .given .1) (c .before .before .before .before .before .before .before .before .before .before .case-at .ensures) in (omega arith, omega arith))
     (λ c. search needs))

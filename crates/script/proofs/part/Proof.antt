@@ -3,12 +3,9 @@ use borrow.Author.Needs.{needs}
 use Rattle.script.proofs.part.Statement.{statement}
 use Rattle.script.proofs.part.Tie as tie
 
-returns : tie.Need-returns
-returns c = c .part .ensures
-
 pub part-spec : {M : Type 1} → statement M
 part-spec =
     tie.close
     (tie.spec
     (λ c κs. search needs)
-    returns)
+    (λ c. c .part .ensures))

@@ -8,18 +8,12 @@ use borrow.Author.Needs.{needs}
 use Rattle.script.proofs.version.Statement.{statement}
 use Rattle.script.proofs.version.Tie as tie
 
-returns : tie.Need-returns
-returns c = c .part .ensures ∙ sym (ap (λ n. part-of (c .before .before .before .args .script .now) n (said (c .before .before .before .args .r) .len)) (bodiless (c .before .before .before .args .r) (c .before .match .keys2) .0) ∙ ap (part-of (c .before .before .before .args .script .now) 0) (bodiless (c .before .before .before .args .r) (c .before .match .keys2) .1))
-
-returns-2 : tie.Need-returns-2
-returns-2 c = c .part2 .ensures ∙ sym (ap (λ a. part-of (c .before .before .before .before .before .args .script .now) (said a .start) (said a .len)) (c .before .before .r .given .1))
-
 pub version-spec : {M : Type 1} → statement M
 version-spec =
     tie.close
     (tie.spec
     (λ c. search needs)
     (λ c κs. search needs)
-    returns
+    (λ c. c .part .ensures ∙ sym (ap (λ n. part-of (c .before .before .before .args .script .now) n (said (c .before .before .before .args .r) .len)) (bodiless (c .before .before .before .args .r) (c .before .match .keys2) .0) ∙ ap (part-of (c .before .before .before .args .script .now) 0) (bodiless (c .before .before .before .args .r) (c .before .match .keys2) .1)))
     (λ c κs. search needs)
-    returns-2)
+    (λ c. c .part2 .ensures ∙ sym (ap (λ a. part-of (c .before .before .before .before .before .args .script .now) (said a .start) (said a .len)) (c .before .before .r .given .1))))

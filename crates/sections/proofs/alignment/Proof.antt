@@ -23,21 +23,8 @@ abbrev at-named : (c : tie.After-named) → Along (c .before .before .before .be
 unfolding rule.alignment
 at-named c = bytes _ (enter (alignment-pays (expression-pays (c .before .before .before .before .before .before .args .mode) (c .before .before .before .before .before .before .args .left))) (c .before .before .before .before .before .before .pre)) refl (known read (c .before .before .word .ensures) (c .named .given .1))
 
-returns : tie.Need-returns
-unfolding rule.alignment
-returns c = lost-here _ (enter (alignment-pays (expression-pays (c .before .before .before .before .before .before .args .mode) (c .before .before .before .before .before .before .args .left))) (c .before .before .before .before .before .before .pre)) refl (known read (c .before .before .word .ensures) (c .enum-told .given .1))
-
-bracketed-requires : tie.Need-bracketed-requires
-bracketed-requires c κs = (at-named (c .before .before)) .room
-
-same-length : tie.Need-same-length
-same-length c = c .before .before .bracketed .kept .1 .0 ∙ (at-named (c .before .before .before .before .before)) .size
-
-returns-2 : tie.Need-returns-2
-unfolding rule.alignment
-returns-2 c = ends-here (at-named (c .before .before .before .before .before)) (runs (c .before .before .bracketed .ensures))
-
 pub alignment-spec : {M : Type 1} → statement M
+unfolding rule.alignment
 alignment-spec =
     tie.close
     (tie.spec
@@ -45,7 +32,7 @@ alignment-spec =
     (λ c κs. search needs)
     (λ c. search needs)
     (λ c. search needs)
-    returns
-    bracketed-requires
-    same-length
-    returns-2)
+    (λ c. lost-here _ (enter (alignment-pays (expression-pays (c .before .before .before .before .before .before .args .mode) (c .before .before .before .before .before .before .args .left))) (c .before .before .before .before .before .before .pre)) refl (known read (c .before .before .word .ensures) (c .enum-told .given .1)))
+    (λ c κs. (at-named (c .before .before)) .room)
+    (λ c. c .before .before .bracketed .kept .1 .0 ∙ (at-named (c .before .before .before .before .before)) .size)
+    (λ c. ends-here (at-named (c .before .before .before .before .before)) (runs (c .before .before .bracketed .ensures))))

@@ -34,38 +34,8 @@ abbrev at-closed : (c : tie.After-closed) → Along (c .before .before .before .
 unfolding rule.bracketed
 at-closed c = bytes _ (at-value (c .before .before .before .before .before)) refl (known read (c .before .before .skip-word-skip2 .ensures) (c .closed .given .1))
 
-returns : tie.Need-returns
-unfolding rule.bracketed
-returns c = lost-here _ (enter (bracketed-pays (expression-pays (c .before .before .before .before .before .before .args .mode) (c .before .before .before .before .before .before .args .left)) (c .before .before .before .before .before .before .args .kind)) (c .before .before .before .before .before .before .pre)) refl (known read (c .before .before .skip-word-skip .ensures) (c .enum-told .given .1))
-
-expression-requires : tie.Need-expression-requires
-expression-requires c κs = (at-opened (c .before .before)) .room
-
-same-length : tie.Need-same-length
-same-length c = c .before .before .before .expression .kept .1 .0 ∙ (at-opened (c .before .before .before .before .before .before)) .size
-
-returns-2 : tie.Need-returns-2
-unfolding rule.bracketed
-returns-2 c = halts _ (at-opened (c .before .before .before .before .before .before)) refl (not-stepped (c .before .before .before .expression .result) (c .match2 .keys2)) (runs (c .before .before .before .expression .ensures)) tt (as-it-is (stepped (c .before .before .before .expression .result)))
-
-same-length-2 : tie.Need-same-length-2
-same-length-2 c = (at-value (c .before .before .before .before .before)) .size
-
-returns-3 : tie.Need-returns-3
-unfolding rule.bracketed
-returns-3 c = lost-here _ (at-value (c .before .before .before .before .before)) refl (known read (c .before .before .skip-word-skip2 .ensures) (c .enum-told2 .given .1))
-
-push-requires : tie.Need-push-requires
-push-requires c κs = can-push (at-closed (c .before .before))
-
-same-length-3 : tie.Need-same-length-3
-same-length-3 c = c .before .before .push .kept .0 ∙ (at-closed (c .before .before .before .before .before)) .size
-
-returns-4 : tie.Need-returns-4
-unfolding rule.bracketed
-returns-4 c = ends-here (at-closed (c .before .before .before .before .before)) (added _ _ _ _ _ (c .before .before .push .ensures) (can-push (at-closed (c .before .before .before .before .before))))
-
 pub bracketed-spec : {M : Type 1} → statement M
+unfolding rule.bracketed
 bracketed-spec =
     tie.close
     (tie.spec
@@ -73,17 +43,17 @@ bracketed-spec =
     (λ c κs. search needs)
     (λ c. search needs)
     (λ c. search needs)
-    returns
-    expression-requires
+    (λ c. lost-here _ (enter (bracketed-pays (expression-pays (c .before .before .before .before .before .before .args .mode) (c .before .before .before .before .before .before .args .left)) (c .before .before .before .before .before .before .args .kind)) (c .before .before .before .before .before .before .pre)) refl (known read (c .before .before .skip-word-skip .ensures) (c .enum-told .given .1)))
+    (λ c κs. (at-opened (c .before .before)) .room)
     (λ c. search needs)
-    same-length
-    returns-2
+    (λ c. c .before .before .before .expression .kept .1 .0 ∙ (at-opened (c .before .before .before .before .before .before)) .size)
+    (λ c. halts _ (at-opened (c .before .before .before .before .before .before)) refl (not-stepped (c .before .before .before .expression .result) (c .match2 .keys2)) (runs (c .before .before .before .expression .ensures)) tt (as-it-is (stepped (c .before .before .before .expression .result))))
     (λ c. search needs)
     (λ c κs. search needs)
     (λ c. search needs)
     (λ c. search needs)
-    same-length-2
-    returns-3
-    push-requires
-    same-length-3
-    returns-4)
+    (λ c. (at-value (c .before .before .before .before .before)) .size)
+    (λ c. lost-here _ (at-value (c .before .before .before .before .before)) refl (known read (c .before .before .skip-word-skip2 .ensures) (c .enum-told2 .given .1)))
+    (λ c κs. can-push (at-closed (c .before .before)))
+    (λ c. c .before .before .push .kept .0 ∙ (at-closed (c .before .before .before .before .before)) .size)
+    (λ c. ends-here (at-closed (c .before .before .before .before .before)) (added _ _ _ _ _ (c .before .before .push .ensures) (can-push (at-closed (c .before .before .before .before .before))))))

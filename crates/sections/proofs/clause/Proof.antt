@@ -27,27 +27,8 @@ abbrev at-at : (c : tie.After-at) → Along (c .before .before .before .before .
 unfolding rule.clause if_then_else_
 at-at c = bytes _ (enter (clause-pays (expression-pays (c .before .before .before .before .before .before .args .mode) (c .before .before .before .before .before .before .args .left))) (c .before .before .before .before .before .before .pre)) refl (opt-some (known read (c .before .before .word .ensures) (c .at .given .1)))
 
-alignment-requires : tie.Need-alignment-requires
-alignment-requires c κs = (at-enum-told (c .before)) .room
-
-same-length : tie.Need-same-length
-same-length c = c .before .before .alignment .kept .1 .0 ∙ (at-enum-told (c .before .before .before .before)) .size
-
-returns : tie.Need-returns
-unfolding rule.clause if_then_else_
-returns c = ends-here (at-enum-told (c .before .before .before .before)) (runs (c .before .before .alignment .ensures))
-
-bracketed-requires : tie.Need-bracketed-requires
-bracketed-requires c κs = (at-at (c .before .before)) .room
-
-same-length-2 : tie.Need-same-length-2
-same-length-2 c = c .before .before .bracketed .kept .1 .0 ∙ (at-at (c .before .before .before .before .before)) .size
-
-returns-2 : tie.Need-returns-2
-unfolding rule.clause if_then_else_
-returns-2 c = ends-here (at-at (c .before .before .before .before .before)) (runs (c .before .before .bracketed .ensures))
-
 pub clause-spec : {M : Type 1} → statement M
+unfolding rule.clause if_then_else_
 clause-spec =
     tie.close
     (tie.spec
@@ -55,9 +36,9 @@ clause-spec =
     (λ c κs. search needs)
     (λ c. search needs)
     (λ c. search needs)
-    alignment-requires
-    same-length
-    returns
-    bracketed-requires
-    same-length-2
-    returns-2)
+    (λ c κs. (at-enum-told (c .before)) .room)
+    (λ c. c .before .before .alignment .kept .1 .0 ∙ (at-enum-told (c .before .before .before .before)) .size)
+    (λ c. ends-here (at-enum-told (c .before .before .before .before)) (runs (c .before .before .alignment .ensures)))
+    (λ c κs. (at-at (c .before .before)) .room)
+    (λ c. c .before .before .bracketed .kept .1 .0 ∙ (at-at (c .before .before .before .before .before)) .size)
+    (λ c. ends-here (at-at (c .before .before .before .before .before)) (runs (c .before .before .bracketed .ensures))))

@@ -48,67 +48,27 @@ abbrev at-item : (c : tie.After-item Inv-loop μ-loop) → Along (c .before .bef
 unfolding rule.clauses rule.clauses-from
 at-item c = called _ (at-if1-left (c .before .before .before .before .before .before)) refl (known-read stepped (c .before .before .before .before .clause .ensures) (c .item .given .1)) (c .before .before .before .before .clause .kept .1 .0)
 
-loop-holds : tie.Need-loop-holds Inv-loop μ-loop
-unfolding rule.clauses rule.clauses-from
-loop-holds c = (record { way = bytes _ (enter (clauses-pays (expression-pays (c .before .before .args .mode) (c .before .before .args .left))) (c .before .before .pre)) refl sized; left = ap (λ n. rule.clauses-from (expression (c .before .before .args .mode) (c .before .before .args .left)) n 0) (sym (add-one (length (c .before .before .args .script .now)))) }, omega arith)
-
-same-length : tie.Need-same-length Inv-loop μ-loop
-same-length c = (at-if1 c) .size
-
-returns : tie.Need-returns Inv-loop μ-loop
-unfolding rule.clauses rule.clauses-from
-returns c = ends-here (at-if1 c) (as-bytes (given _))
-
-clause-requires : tie.Need-clause-requires Inv-loop μ-loop
-clause-requires c κs = (at-if1-left (c .before)) .room
-
-same-length-2 : tie.Need-same-length-2 Inv-loop μ-loop
-same-length-2 c = c .before .before .before .before .clause .kept .1 .0 ∙ (at-if1-left (c .before .before .before .before .before .before)) .size
-
-returns-2 : tie.Need-returns-2 Inv-loop μ-loop
-unfolding rule.clauses rule.clauses-from
-returns-2 c = halts _ (at-if1-left (c .before .before .before .before .before .before)) refl (not-stepped (c .before .before .before .before .clause .result) (c .before .match .keys2)) (runs (c .before .before .before .before .clause .ensures)) _ (c .counted .ensures)
-
-add-k : tie.Need-add-k Inv-loop μ-loop
-add-k c = record { fits = omega (arith, c .before .before .before .before .before .before .before .before .before .before .before .loop .inv .1, (c .before .before .before .before .before .before .before .before .before .before .before .loop .inv .0 .way) .room .short, c .before .before .before .before .before .before .before .before .before .before .loop-test .taken) }
-
-sub-turns : tie.Need-sub-turns Inv-loop μ-loop
-sub-turns c = omega (arith, c .before .before .before .before .before .before .before .before .before .before .loop-test .taken)
-
-loop-less : tie.Need-loop-less Inv-loop μ-loop
-loop-less c = omega (arith, c .before .before .before .before .before .before .before .before .before .before .loop-test .taken)
-
-loop-again : tie.Need-loop-again Inv-loop μ-loop
-unfolding rule.clauses rule.clauses-from
-loop-again c = (record { way = (at-item (c .before)); left = ap (λ n. rule.clauses-from (expression (c .before .before .before .before .before .before .before .before .before .before .before .before .before .before .args .mode) (c .before .before .before .before .before .before .before .before .before .before .before .before .before .before .args .left)) (c .before .before .before .before .before .before .before .before .before .before .before .loop .turns - 1) n) (sym (add-one (c .before .before .before .before .before .before .before .before .before .before .before .loop .k))) }, omega (arith, c .before .before .before .before .before .before .before .before .before .before .before .loop .inv .1, c .before .before .before .before .before .before .before .before .before .before .loop-test .taken))
-
-same-length-3 : tie.Need-same-length-3 Inv-loop μ-loop
-same-length-3 c = (c .before .loop .inv .0 .way) .size
-
-returns-3 : tie.Need-returns-3 Inv-loop μ-loop
-unfolding rule.clauses rule.clauses-from
-returns-3 c = spent (c .before .loop .inv .0 .way) (λ n. rule.clauses-from (expression (c .before .before .before .before .args .mode) (c .before .before .before .before .args .left)) n (c .before .loop .k)) (c .before .loop .inv .0 .left) (c .loop-test .left) (as-lost refused)
-
 pub clauses-spec : {M : Type 1} → statement M
+unfolding rule.clauses rule.clauses-from
 clauses-spec =
     tie.close
     (tie.spec
     Inv-loop
     μ-loop
     (λ c. search needs)
-    loop-holds
+    (λ c. (record { way = bytes _ (enter (clauses-pays (expression-pays (c .before .before .args .mode) (c .before .before .args .left))) (c .before .before .pre)) refl sized; left = ap (λ n. rule.clauses-from (expression (c .before .before .args .mode) (c .before .before .args .left)) n 0) (sym (add-one (length (c .before .before .args .script .now)))) }, omega arith))
     (λ c. search needs)
     (λ c κs. search needs)
-    same-length
-    returns
-    clause-requires
+    (λ c. (at-if1 c) .size)
+    (λ c. ends-here (at-if1 c) (as-bytes (given _)))
+    (λ c κs. (at-if1-left (c .before)) .room)
     (λ c. search needs)
     (λ c κs. search needs)
-    same-length-2
-    returns-2
-    add-k
-    sub-turns
-    loop-less
-    loop-again
-    same-length-3
-    returns-3)
+    (λ c. c .before .before .before .before .clause .kept .1 .0 ∙ (at-if1-left (c .before .before .before .before .before .before)) .size)
+    (λ c. halts _ (at-if1-left (c .before .before .before .before .before .before)) refl (not-stepped (c .before .before .before .before .clause .result) (c .before .match .keys2)) (runs (c .before .before .before .before .clause .ensures)) _ (c .counted .ensures))
+    (λ c. record { fits = omega (arith, c .before .before .before .before .before .before .before .before .before .before .before .loop .inv .1, (c .before .before .before .before .before .before .before .before .before .before .before .loop .inv .0 .way) .room .short, c .before .before .before .before .before .before .before .before .before .before .loop-test .taken) })
+    (λ c. omega (arith, c .before .before .before .before .before .before .before .before .before .before .loop-test .taken))
+    (λ c. omega (arith, c .before .before .before .before .before .before .before .before .before .before .loop-test .taken))
+    (λ c. (record { way = (at-item (c .before)); left = ap (λ n. rule.clauses-from (expression (c .before .before .before .before .before .before .before .before .before .before .before .before .before .before .args .mode) (c .before .before .before .before .before .before .before .before .before .before .before .before .before .before .args .left)) (c .before .before .before .before .before .before .before .before .before .before .before .loop .turns - 1) n) (sym (add-one (c .before .before .before .before .before .before .before .before .before .before .before .loop .k))) }, omega (arith, c .before .before .before .before .before .before .before .before .before .before .before .loop .inv .1, c .before .before .before .before .before .before .before .before .before .before .loop-test .taken)))
+    (λ c. (c .before .loop .inv .0 .way) .size)
+    (λ c. spent (c .before .loop .inv .0 .way) (λ n. rule.clauses-from (expression (c .before .before .before .before .args .mode) (c .before .before .before .before .args .left)) n (c .before .loop .k)) (c .before .loop .inv .0 .left) (c .loop-test .left) (as-lost refused)))

@@ -58,68 +58,28 @@ abbrev at-item : (c : tie.After-item Inv-loop μ-loop) → Along (c .before .bef
 unfolding repeat-till repeating if_then_else_
 at-item c = called _ (at-enum-told (c .before .before .before .before .before .before)) refl (known-read (λ r. valued tt (counted r)) (c .before .before .before .before .contents-item .ensures .0) (c .item .given .1)) (c .before .before .before .before .contents-item .kept .1 .0)
 
-loop-holds : tie.Need-loop-holds Inv-loop μ-loop
-unfolding repeat-till repeating if_then_else_
-loop-holds c = (record { way = bytes _ (enter (λ f i. repeats (contents-command-pays (expression-pays (c .before .before .args .mode) (c .before .before .args .left)) f i) (over _)) (c .before .before .pre)) refl sized; left = ap (λ n. repeating (contents-command (expression (c .before .before .args .mode) (c .before .before .args .left))) (word "}") n 0) (sym (add-one (length (c .before .before .args .script .now)))) }, omega arith, λ q l m. absurd (omega arith))
-
-same-length : tie.Need-same-length Inv-loop μ-loop
-same-length c = (at-end (c .before)) .size
-
-returns : tie.Need-returns Inv-loop μ-loop
-unfolding repeat-till repeating if_then_else_
-returns c = ends-here (at-end (c .before)) (as-bytes (given _))
-
-contents-item-requires : tie.Need-contents-item-requires Inv-loop μ-loop
-contents-item-requires c κs = ((at-enum-told (c .before)) .room, c .before .before .before .before .before .before .loop .inv .2)
-
-same-length-2 : tie.Need-same-length-2 Inv-loop μ-loop
-same-length-2 c = c .before .before .before .contents-item .kept .1 .0 ∙ (at-enum-told (c .before .before .before .before .before)) .size
-
-returns-2 : tie.Need-returns-2 Inv-loop μ-loop
-unfolding repeat-till repeating if_then_else_
-returns-2 c = let item = c .before .before .before .contents-item in halts _ (at-enum-told (c .before .before .before .before .before)) refl (unread-too (counted (item .result)) (not-counted (item .result) (c .match2 .keys2))) (runs (item .ensures .0)) 0 (as-before (counted (item .result)) (not-counted (item .result) (c .match2 .keys2)))
-
-add-k : tie.Need-add-k Inv-loop μ-loop
-add-k c = record { fits = omega (arith, c .before .before .before .before .before .before .before .before .before .before .before .before .loop .inv .1, (c .before .before .before .before .before .before .before .before .before .before .before .before .loop .inv .0 .way) .room .short, c .before .before .before .before .before .before .before .before .before .before .before .loop-test .taken) }
-
-sub-turns : tie.Need-sub-turns Inv-loop μ-loop
-sub-turns c = omega (arith, c .before .before .before .before .before .before .before .before .before .before .before .loop-test .taken)
-
-loop-less : tie.Need-loop-less Inv-loop μ-loop
-loop-less c = omega (arith, c .before .before .before .before .before .before .before .before .before .before .before .loop-test .taken)
-
-loop-again : tie.Need-loop-again Inv-loop μ-loop
-unfolding repeat-till repeating if_then_else_
-loop-again c = (record { way = (at-item (c .before)); left = ap (λ n. repeating (contents-command (expression (c .before .before .before .before .before .before .before .before .before .before .before .before .before .before .before .args .mode) (c .before .before .before .before .before .before .before .before .before .before .before .before .before .before .before .args .left))) (word "}") (c .before .before .before .before .before .before .before .before .before .before .before .before .loop .turns - 1) n) (sym (add-one (c .before .before .before .before .before .before .before .before .before .before .before .before .loop .k))) }, omega (arith, c .before .before .before .before .before .before .before .before .before .before .before .before .loop .inv .1, c .before .before .before .before .before .before .before .before .before .before .before .loop-test .taken), subst (λ r. AloneFrom (expression (c .before .before .before .before .before .before .before .before .before .before .before .before .before .before .before .args .mode) (c .before .before .before .before .before .before .before .before .before .before .before .before .before .before .before .args .left)) (c .before .before .before .before .before .before .before .before .before .before .before .before .before .before .before .args .script .now) (counted r)) (c .before .item .given .1) (c .before .before .before .before .before .contents-item .ensures .1))
-
-same-length-3 : tie.Need-same-length-3 Inv-loop μ-loop
-same-length-3 c = (c .before .loop .inv .0 .way) .size
-
-returns-3 : tie.Need-returns-3 Inv-loop μ-loop
-unfolding repeat-till repeating if_then_else_
-returns-3 c = spent (c .before .loop .inv .0 .way) (λ n. repeating (contents-command (expression (c .before .before .before .before .args .mode) (c .before .before .before .before .args .left))) (word "}") n (c .before .loop .k)) (c .before .loop .inv .0 .left) (c .loop-test .left) (as-lost refused)
-
 pub contents-spec : {M : Type 1} → statement M
+unfolding repeat-till repeating if_then_else_
 contents-spec =
     tie.close
     (tie.spec
     Inv-loop
     μ-loop
     (λ c. search needs)
-    loop-holds
+    (λ c. (record { way = bytes _ (enter (λ f i. repeats (contents-command-pays (expression-pays (c .before .before .args .mode) (c .before .before .args .left)) f i) (over _)) (c .before .before .pre)) refl sized; left = ap (λ n. repeating (contents-command (expression (c .before .before .args .mode) (c .before .before .args .left))) (word "}") n 0) (sym (add-one (length (c .before .before .args .script .now)))) }, omega arith, λ q l m. absurd (omega arith)))
     (λ c. search needs)
     (λ c κs. search needs)
     (λ c. search needs)
-    same-length
-    returns
+    (λ c. (at-end (c .before)) .size)
+    (λ c. ends-here (at-end (c .before)) (as-bytes (given _)))
     (λ c. search needs)
-    contents-item-requires
+    (λ c κs. ((at-enum-told (c .before)) .room, c .before .before .before .before .before .before .loop .inv .2))
     (λ c. search needs)
-    same-length-2
-    returns-2
-    add-k
-    sub-turns
-    loop-less
-    loop-again
-    same-length-3
-    returns-3)
+    (λ c. c .before .before .before .contents-item .kept .1 .0 ∙ (at-enum-told (c .before .before .before .before .before)) .size)
+    (λ c. let item = c .before .before .before .contents-item in halts _ (at-enum-told (c .before .before .before .before .before)) refl (unread-too (counted (item .result)) (not-counted (item .result) (c .match2 .keys2))) (runs (item .ensures .0)) 0 (as-before (counted (item .result)) (not-counted (item .result) (c .match2 .keys2))))
+    (λ c. record { fits = omega (arith, c .before .before .before .before .before .before .before .before .before .before .before .before .loop .inv .1, (c .before .before .before .before .before .before .before .before .before .before .before .before .loop .inv .0 .way) .room .short, c .before .before .before .before .before .before .before .before .before .before .before .loop-test .taken) })
+    (λ c. omega (arith, c .before .before .before .before .before .before .before .before .before .before .before .loop-test .taken))
+    (λ c. omega (arith, c .before .before .before .before .before .before .before .before .before .before .before .loop-test .taken))
+    (λ c. (record { way = (at-item (c .before)); left = ap (λ n. repeating (contents-command (expression (c .before .before .before .before .before .before .before .before .before .before .before .before .before .before .before .args .mode) (c .before .before .before .before .before .before .before .before .before .before .before .before .before .before .before .args .left))) (word "}") (c .before .before .before .before .before .before .before .before .before .before .before .before .loop .turns - 1) n) (sym (add-one (c .before .before .before .before .before .before .before .before .before .before .before .before .loop .k))) }, omega (arith, c .before .before .before .before .before .before .before .before .before .before .before .before .loop .inv .1, c .before .before .before .before .before .before .before .before .before .before .before .loop-test .taken), subst (λ r. AloneFrom (expression (c .before .before .before .before .before .before .before .before .before .before .before .before .before .before .before .args .mode) (c .before .before .before .before .before .before .before .before .before .before .before .before .before .before .before .args .left)) (c .before .before .before .before .before .before .before .before .before .before .before .before .before .before .before .args .script .now) (counted r)) (c .before .item .given .1) (c .before .before .before .before .before .contents-item .ensures .1)))
+    (λ c. (c .before .loop .inv .0 .way) .size)
+    (λ c. spent (c .before .loop .inv .0 .way) (λ n. repeating (contents-command (expression (c .before .before .before .before .args .mode) (c .before .before .before .before .args .left))) (word "}") n (c .before .loop .k)) (c .before .loop .inv .0 .left) (c .loop-test .left) (as-lost refused)))

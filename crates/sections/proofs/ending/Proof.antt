@@ -34,55 +34,22 @@ abbrev at-name : (c : tie.After-name) → Along (c .before .before .before .befo
 unfolding rule.ending rule.fill
 at-name c = bytes _ (at-if1-left (c .before .before .before)) refl (known taken (c .before .before .token .ensures) (c .name .given .1))
 
-expression-requires : tie.Need-expression-requires
-expression-requires c κs = (at-if1 (c .before)) .room
-
-same-length : tie.Need-same-length
-same-length c = c .before .before .before .expression .kept .1 .0 ∙ (at-if1 (c .before .before .before .before .before)) .size
-
-returns : tie.Need-returns
-unfolding rule.ending rule.fill
-returns c = halts _ (at-if1 (c .before .before .before .before .before)) refl (not-stepped (c .before .before .before .expression .result) (c .match .keys2)) (runs (c .before .before .before .expression .ensures)) tt (as-it-is (stepped (c .before .before .before .expression .result)))
-
-push-requires : tie.Need-push-requires
-push-requires c κs = can-push (at-value (c .before .before))
-
-same-length-2 : tie.Need-same-length-2
-same-length-2 c = c .before .before .push .kept .0 ∙ (at-value (c .before .before .before .before .before)) .size
-
-returns-2 : tie.Need-returns-2
-unfolding rule.ending rule.fill
-returns-2 c = ends-here (at-value (c .before .before .before .before .before)) (added _ _ _ _ _ (c .before .before .push .ensures) (can-push (at-value (c .before .before .before .before .before))))
-
-returns-3 : tie.Need-returns-3
-unfolding rule.ending rule.fill
-returns-3 c = lost-here _ (at-if1-left (c .before .before .before)) refl (known taken (c .before .before .token .ensures) (c .enum-told .given .1))
-
-push-requires-2 : tie.Need-push-requires-2
-push-requires-2 c κs = can-push (at-name (c .before .before))
-
-same-length-3 : tie.Need-same-length-3
-same-length-3 c = c .before .before .push2 .kept .0 ∙ (at-name (c .before .before .before .before .before)) .size
-
-returns-4 : tie.Need-returns-4
-unfolding rule.ending rule.fill
-returns-4 c = ends-here (at-name (c .before .before .before .before .before)) (added _ _ _ _ _ (c .before .before .push2 .ensures) (can-push (at-name (c .before .before .before .before .before))))
-
 pub ending-spec : {M : Type 1} → statement M
+unfolding rule.ending rule.fill
 ending-spec =
     tie.close
     (tie.spec
-    expression-requires
+    (λ c κs. (at-if1 (c .before)) .room)
     (λ c. search needs)
-    same-length
-    returns
-    push-requires
-    same-length-2
-    returns-2
+    (λ c. c .before .before .before .expression .kept .1 .0 ∙ (at-if1 (c .before .before .before .before .before)) .size)
+    (λ c. halts _ (at-if1 (c .before .before .before .before .before)) refl (not-stepped (c .before .before .before .expression .result) (c .match .keys2)) (runs (c .before .before .before .expression .ensures)) tt (as-it-is (stepped (c .before .before .before .expression .result))))
+    (λ c κs. can-push (at-value (c .before .before)))
+    (λ c. c .before .before .push .kept .0 ∙ (at-value (c .before .before .before .before .before)) .size)
+    (λ c. ends-here (at-value (c .before .before .before .before .before)) (added _ _ _ _ _ (c .before .before .push .ensures) (can-push (at-value (c .before .before .before .before .before)))))
     (λ c κs. search needs)
     (λ c. search needs)
     (λ c. search needs)
-    returns-3
-    push-requires-2
-    same-length-3
-    returns-4)
+    (λ c. lost-here _ (at-if1-left (c .before .before .before)) refl (known taken (c .before .before .token .ensures) (c .enum-told .given .1)))
+    (λ c κs. can-push (at-name (c .before .before)))
+    (λ c. c .before .before .push2 .kept .0 ∙ (at-name (c .before .before .before .before .before)) .size)
+    (λ c. ends-here (at-name (c .before .before .before .before .before)) (added _ _ _ _ _ (c .before .before .push2 .ensures) (can-push (at-name (c .before .before .before .before .before))))))

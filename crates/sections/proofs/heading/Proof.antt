@@ -50,62 +50,25 @@ abbrev at-part : (c : tie.After-part Inv-loop μ-loop) → Along (c .before .bef
 unfolding rule.heading rule.heading-from
 at-part c = lowered _ (λ i. heading-part-pays (expression-pays (c .before .before .before .before .before .before .before .before .before .before .before .before .before .args .mode) (c .before .before .before .before .before .before .before .before .before .before .before .before .before .args .left)) (c .before .before .before .before .before .before .before .before .before .before .before .before .before .args .c .count) (c .before .before .before .before .before .before .before .before .before .before .loop .so-far) i) (at-if1-left (c .before .before .before .before .before .before)) refl (known-run headed (c .before .before .before .before .heading-part .ensures) (c .part .given .1)) (c .before .before .before .before .heading-part .kept .1 .0)
 
-loop-holds : tie.Need-loop-holds Inv-loop μ-loop
-unfolding rule.heading rule.heading-from
-loop-holds c = record { way = counting-on (bytes _ (enter (heading-pays (expression-pays (c .before .before .args .mode) (c .before .before .args .left))) (c .before .before .pre)) refl sized) _ refl; left = ap (λ n. rule.heading-from (expression (c .before .before .args .mode) (c .before .before .args .left)) (c .before .before .args .c .count) n (rule.heading-of 0 0)) (sym (add-one (length (c .before .before .args .script .now)))) }
-
-same-length : tie.Need-same-length Inv-loop μ-loop
-same-length c = (at-if1 c) .size
-
-returns : tie.Need-returns Inv-loop μ-loop
-unfolding rule.heading rule.heading-from
-returns c = ends-here (at-if1 c) (as-bytes (given _))
-
-heading-part-requires : tie.Need-heading-part-requires Inv-loop μ-loop
-heading-part-requires c κs = ((at-if1-left (c .before)) .room, (at-if1-left (c .before)) .low)
-
-same-length-2 : tie.Need-same-length-2 Inv-loop μ-loop
-same-length-2 c = c .before .before .before .heading-part .kept .1 .0 ∙ (at-if1-left (c .before .before .before .before .before)) .size
-
-returns-2 : tie.Need-returns-2 Inv-loop μ-loop
-unfolding rule.heading rule.heading-from
-returns-2 c = halts-low _ (at-if1-left (c .before .before .before .before .before)) refl (not-headed (c .before .before .before .heading-part .result) (c .match .keys2)) (c .before .before .before .heading-part .ensures) (c .before .before .before .before .before .before .before .before .before .loop .so-far) (as-was (headed (c .before .before .before .heading-part .result)) (c .before .before .before .before .before .before .before .before .before .loop .so-far) (not-headed (c .before .before .before .heading-part .result) (c .match .keys2)))
-
-sub-turns : tie.Need-sub-turns Inv-loop μ-loop
-sub-turns c = omega (arith, c .before .before .before .before .before .before .before .before .before .before .loop-test .taken)
-
-loop-less : tie.Need-loop-less Inv-loop μ-loop
-loop-less c = omega (arith, c .before .before .before .before .before .before .before .before .before .before .loop-test .taken)
-
-loop-again : tie.Need-loop-again Inv-loop μ-loop
-unfolding rule.heading rule.heading-from
-loop-again c = record { way = (at-part (c .before)); left = refl }
-
-same-length-3 : tie.Need-same-length-3 Inv-loop μ-loop
-same-length-3 c = (c .before .loop .inv .way) .size
-
-returns-3 : tie.Need-returns-3 Inv-loop μ-loop
-unfolding rule.heading rule.heading-from
-returns-3 c = spent (c .before .loop .inv .way) (λ n. rule.heading-from (expression (c .before .before .before .before .args .mode) (c .before .before .before .before .args .left)) (c .before .before .before .before .args .c .count) n (c .before .loop .so-far)) (c .before .loop .inv .left) (c .loop-test .left) (as-lost refused)
-
 pub heading-spec : {M : Type 1} → statement M
+unfolding rule.heading rule.heading-from
 heading-spec =
     tie.close
     (tie.spec
     Inv-loop
     μ-loop
     (λ c. search needs)
-    loop-holds
+    (λ c. record { way = counting-on (bytes _ (enter (heading-pays (expression-pays (c .before .before .args .mode) (c .before .before .args .left))) (c .before .before .pre)) refl sized) _ refl; left = ap (λ n. rule.heading-from (expression (c .before .before .args .mode) (c .before .before .args .left)) (c .before .before .args .c .count) n (rule.heading-of 0 0)) (sym (add-one (length (c .before .before .args .script .now)))) })
     (λ c. search needs)
     (λ c κs. search needs)
-    same-length
-    returns
-    heading-part-requires
+    (λ c. (at-if1 c) .size)
+    (λ c. ends-here (at-if1 c) (as-bytes (given _)))
+    (λ c κs. ((at-if1-left (c .before)) .room, (at-if1-left (c .before)) .low))
     (λ c. search needs)
-    same-length-2
-    returns-2
-    sub-turns
-    loop-less
-    loop-again
-    same-length-3
-    returns-3)
+    (λ c. c .before .before .before .heading-part .kept .1 .0 ∙ (at-if1-left (c .before .before .before .before .before)) .size)
+    (λ c. halts-low _ (at-if1-left (c .before .before .before .before .before)) refl (not-headed (c .before .before .before .heading-part .result) (c .match .keys2)) (c .before .before .before .heading-part .ensures) (c .before .before .before .before .before .before .before .before .before .loop .so-far) (as-was (headed (c .before .before .before .heading-part .result)) (c .before .before .before .before .before .before .before .before .before .loop .so-far) (not-headed (c .before .before .before .heading-part .result) (c .match .keys2))))
+    (λ c. omega (arith, c .before .before .before .before .before .before .before .before .before .before .loop-test .taken))
+    (λ c. omega (arith, c .before .before .before .before .before .before .before .before .before .before .loop-test .taken))
+    (λ c. record { way = (at-part (c .before)); left = refl })
+    (λ c. (c .before .loop .inv .way) .size)
+    (λ c. spent (c .before .loop .inv .way) (λ n. rule.heading-from (expression (c .before .before .before .before .args .mode) (c .before .before .before .before .args .left)) (c .before .before .before .before .args .c .count) n (c .before .loop .so-far)) (c .before .loop .inv .left) (c .loop-test .left) (as-lost refused)))

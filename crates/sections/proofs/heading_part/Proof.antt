@@ -31,36 +31,19 @@ abbrev at-skipped : (c : tie.After-skipped) → Along (c .before .before .before
 unfolding rule.heading-part perhaps
 at-skipped c = bytes _ (at-kind (c .before .before .before .before)) refl (known read (c .before .before .skip .ensures) (c .skipped .given .1))
 
-start-expression-requires : tie.Need-start-expression-requires
-start-expression-requires c κs = (at-enum-told (c .before)) .room
-
-same-length : tie.Need-same-length
-same-length c = c .before .before .start-expression .kept .1 .0 ∙ (at-enum-told (c .before .before .before .before)) .size
-
-returns : tie.Need-returns
-unfolding rule.heading-part perhaps
-returns c = ends-here (at-enum-told (c .before .before .before .before)) (runs (c .before .before .start-expression .ensures))
-
-returns-2 : tie.Need-returns-2
-unfolding rule.heading-part perhaps
-returns-2 c = lost-here _ (at-kind (c .before .before .before .before)) refl (known read (c .before .before .skip .ensures) (c .enum-told2 .given .1))
-
-returns-3 : tie.Need-returns-3
-unfolding rule.heading-part perhaps
-returns-3 c = ends-here (at-skipped (c .before)) (as-bytes (given _))
-
 pub heading-part-spec : {M : Type 1} → statement M
+unfolding rule.heading-part perhaps
 heading-part-spec =
     tie.close
     (tie.spec
     (λ c κs. search needs)
     (λ c. search needs)
     (λ c. search needs)
-    start-expression-requires
-    same-length
-    returns
+    (λ c κs. (at-enum-told (c .before)) .room)
+    (λ c. c .before .before .start-expression .kept .1 .0 ∙ (at-enum-told (c .before .before .before .before)) .size)
+    (λ c. ends-here (at-enum-told (c .before .before .before .before)) (runs (c .before .before .start-expression .ensures)))
     (λ c κs. search needs)
     (λ c. search needs)
     (λ c. search needs)
-    returns-2
-    returns-3)
+    (λ c. lost-here _ (at-kind (c .before .before .before .before)) refl (known read (c .before .before .skip .ensures) (c .enum-told2 .given .1)))
+    (λ c. ends-here (at-skipped (c .before)) (as-bytes (given _))))

@@ -32,63 +32,27 @@ abbrev at-list : (c : tie.After-list) → Along (c .before .before .before .befo
 unfolding rule.section
 at-list c = called _ (at-colon (c .before .before .before .before .before .before .before)) refl (known-read counted (c .before .before .before .before .clauses .ensures) (c .list .given .1)) (c .before .before .before .before .clauses .kept .1 .0)
 
-heading-requires : tie.Need-heading-requires
-heading-requires c κs = (c .before .before .before .pre .0)
-
-same-length : tie.Need-same-length
-same-length c = c .before .before .before .before .heading .kept .1 .0
-
-returns : tie.Need-returns
-unfolding rule.section
-returns c = halts _ (enter-short (c .before .before .before .before .before .before .before .before .pre .0) (c .before .before .before .before .before .before .before .before .pre .1)) refl (not-headed (c .before .before .before .before .heading .result) (c .before .match .keys2)) (runs (c .before .before .before .before .heading .ensures)) _ (c .step .ensures)
-
-same-length-2 : tie.Need-same-length-2
-same-length-2 c = (at-head (c .before .before .before .before .before)) .size
-
-returns-2 : tie.Need-returns-2
-unfolding rule.section
-returns-2 c = lost-here _ (at-head (c .before .before .before .before .before)) refl (known read (c .before .before .word-skip .ensures) (c .enum-told .given .1))
-
-clauses-requires : tie.Need-clauses-requires
-clauses-requires c κs = (at-colon (c .before .before)) .room
-
-same-length-3 : tie.Need-same-length-3
-same-length-3 c = c .before .before .before .before .clauses .kept .1 .0 ∙ (at-colon (c .before .before .before .before .before .before .before)) .size
-
-returns-3 : tie.Need-returns-3
-unfolding rule.section
-returns-3 c = halts _ (at-colon (c .before .before .before .before .before .before .before)) refl (not-counted (c .before .before .before .before .clauses .result) (c .before .match3 .keys2)) (runs (c .before .before .before .before .clauses .ensures)) _ (c .step2 .ensures)
-
-section-body-requires : tie.Need-section-body-requires
-section-body-requires c κs = ((at-list (c .before .before)) .room, omega (arith, (at-list (c .before .before)) .spare))
-
-same-length-4 : tie.Need-same-length-4
-same-length-4 c = c .before .before .section-body .kept .1 .0 ∙ (at-list (c .before .before .before .before .before)) .size
-
-returns-4 : tie.Need-returns-4
-unfolding rule.section
-returns-4 c = ends-here (at-list (c .before .before .before .before .before)) (c .before .before .section-body .ensures)
-
 pub section-spec : {M : Type 1} → statement M
+unfolding rule.section
 section-spec =
     tie.close
     (tie.spec
-    heading-requires
+    (λ c κs. (c .before .before .before .pre .0))
     (λ c. search needs)
     (λ c κs. search needs)
-    same-length
-    returns
+    (λ c. c .before .before .before .before .heading .kept .1 .0)
+    (λ c. halts _ (enter-short (c .before .before .before .before .before .before .before .before .pre .0) (c .before .before .before .before .before .before .before .before .pre .1)) refl (not-headed (c .before .before .before .before .heading .result) (c .before .match .keys2)) (runs (c .before .before .before .before .heading .ensures)) _ (c .step .ensures))
     (λ c. search needs)
     (λ c κs. search needs)
     (λ c. search needs)
     (λ c. search needs)
-    same-length-2
-    returns-2
-    clauses-requires
+    (λ c. (at-head (c .before .before .before .before .before)) .size)
+    (λ c. lost-here _ (at-head (c .before .before .before .before .before)) refl (known read (c .before .before .word-skip .ensures) (c .enum-told .given .1)))
+    (λ c κs. (at-colon (c .before .before)) .room)
     (λ c. search needs)
     (λ c κs. search needs)
-    same-length-3
-    returns-3
-    section-body-requires
-    same-length-4
-    returns-4)
+    (λ c. c .before .before .before .before .clauses .kept .1 .0 ∙ (at-colon (c .before .before .before .before .before .before .before)) .size)
+    (λ c. halts _ (at-colon (c .before .before .before .before .before .before .before)) refl (not-counted (c .before .before .before .before .clauses .result) (c .before .match3 .keys2)) (runs (c .before .before .before .before .clauses .ensures)) _ (c .step2 .ensures))
+    (λ c κs. ((at-list (c .before .before)) .room, omega (arith, (at-list (c .before .before)) .spare)))
+    (λ c. c .before .before .section-body .kept .1 .0 ∙ (at-list (c .before .before .before .before .before)) .size)
+    (λ c. ends-here (at-list (c .before .before .before .before .before)) (c .before .before .section-body .ensures)))

@@ -28,47 +28,21 @@ abbrev at-ended : (c : tie.After-ended) → Along (c .before .before .before .be
 unfolding rule.section-assignment
 at-ended c = bytes _ (at-value (c .before .before .before .before .before)) refl (known read (c .before .before .skip-word-skip .ensures) (c .ended .given .1))
 
-expand-requires : tie.Need-expand-requires
-expand-requires c κs = ((c .before .before .before .pre .0), omega (arith, c .before .before .before .pre .1))
-
-same-length : tie.Need-same-length
-same-length c = c .before .before .before .expand .kept .1 .0
-
-returns : tie.Need-returns
-unfolding rule.section-assignment
-returns c = halts _ (enter-short (c .before .before .before .before .before .before .before .pre .0) (c .before .before .before .before .before .before .before .pre .1)) refl (not-stepped (c .before .before .before .expand .result) (c .match .keys2)) (c .before .before .before .expand .ensures) tt (as-it-is (stepped (c .before .before .before .expand .result)))
-
-same-length-2 : tie.Need-same-length-2
-same-length-2 c = (at-value (c .before .before .before .before .before)) .size
-
-returns-2 : tie.Need-returns-2
-unfolding rule.section-assignment
-returns-2 c = lost-here _ (at-value (c .before .before .before .before .before)) refl (known read (c .before .before .skip-word-skip .ensures) (c .enum-told .given .1))
-
-assigned-requires : tie.Need-assigned-requires
-assigned-requires c κs = ((at-ended (c .before .before)) .room, omega (arith, (at-ended (c .before .before)) .spare))
-
-same-length-3 : tie.Need-same-length-3
-same-length-3 c = c .before .before .assigned .kept .1 .0 ∙ (at-ended (c .before .before .before .before .before)) .size
-
-returns-3 : tie.Need-returns-3
-unfolding rule.section-assignment
-returns-3 c = ends-here (at-ended (c .before .before .before .before .before)) (c .before .before .assigned .ensures)
-
 pub section-assignment-spec : {M : Type 1} → statement M
+unfolding rule.section-assignment
 section-assignment-spec =
     tie.close
     (tie.spec
-    expand-requires
+    (λ c κs. ((c .before .before .before .pre .0), omega (arith, c .before .before .before .pre .1)))
     (λ c. search needs)
-    same-length
-    returns
+    (λ c. c .before .before .before .expand .kept .1 .0)
+    (λ c. halts _ (enter-short (c .before .before .before .before .before .before .before .pre .0) (c .before .before .before .before .before .before .before .pre .1)) refl (not-stepped (c .before .before .before .expand .result) (c .match .keys2)) (c .before .before .before .expand .ensures) tt (as-it-is (stepped (c .before .before .before .expand .result))))
     (λ c. search needs)
     (λ c κs. search needs)
     (λ c. search needs)
     (λ c. search needs)
-    same-length-2
-    returns-2
-    assigned-requires
-    same-length-3
-    returns-3)
+    (λ c. (at-value (c .before .before .before .before .before)) .size)
+    (λ c. lost-here _ (at-value (c .before .before .before .before .before)) refl (known read (c .before .before .skip-word-skip .ensures) (c .enum-told .given .1)))
+    (λ c κs. ((at-ended (c .before .before)) .room, omega (arith, (at-ended (c .before .before)) .spare)))
+    (λ c. c .before .before .assigned .kept .1 .0 ∙ (at-ended (c .before .before .before .before .before)) .size)
+    (λ c. ends-here (at-ended (c .before .before .before .before .before)) (c .before .before .assigned .ensures)))

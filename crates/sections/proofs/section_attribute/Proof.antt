@@ -44,31 +44,8 @@ abbrev at-closed : (c : tie.After-closed) → Along (c .before .before .before .
 unfolding rule.section-attribute
 at-closed c = past (at-if1-left (c .before .before .before .before)) _ refl (known read (c .before .before .word .ensures) (c .closed .given .1))
 
-returns : tie.Need-returns
-unfolding rule.section-attribute
-returns c = missed set-out _ refl (known read (c .before .before .word-skip .ensures) (c .enum-told .given .1))
-
-returns-2 : tie.Need-returns-2
-unfolding rule.section-attribute
-returns-2 c = missed (at-opened (c .before .before .before .before)) _ refl (known taken (c .before .before .token .ensures) (c .enum-told2 .given .1))
-
-returns-3 : tie.Need-returns-3
-unfolding rule.section-attribute
-returns-3 c = missed (at-name (c .before .before .before .before)) _ refl (known read (c .before .before .skip .ensures) (c .enum-told3 .given .1))
-
-returns-4 : tie.Need-returns-4
-unfolding rule.section-attribute
-returns-4 c = arrived (at-if1 c) refused
-
-returns-5 : tie.Need-returns-5
-unfolding rule.section-attribute
-returns-5 c = missed (at-if1-left (c .before .before .before .before)) _ refl (known read (c .before .before .word .ensures) (c .enum-told4 .given .1))
-
-returns-6 : tie.Need-returns-6
-unfolding rule.section-attribute
-returns-6 c = arrived (at-closed (c .before)) (given-as (sym (c .before .before .before .before .before .before .attribute .ensures)))
-
 pub section-attribute-spec : {M : Type 1} → statement M
+unfolding rule.section-attribute
 section-attribute-spec =
     tie.close
     (tie.spec
@@ -76,21 +53,21 @@ section-attribute-spec =
     (λ c κs. search needs)
     (λ c. search needs)
     (λ c. search needs)
-    returns
+    (λ c. missed set-out _ refl (known read (c .before .before .word-skip .ensures) (c .enum-told .given .1)))
     (λ c κs. search needs)
     (λ c. search needs)
     (λ c. search needs)
-    returns-2
+    (λ c. missed (at-opened (c .before .before .before .before)) _ refl (known taken (c .before .before .token .ensures) (c .enum-told2 .given .1)))
     (λ c κs. search needs)
     (λ c. search needs)
     (λ c. search needs)
-    returns-3
+    (λ c. missed (at-name (c .before .before .before .before)) _ refl (known read (c .before .before .skip .ensures) (c .enum-told3 .given .1)))
     (λ c κs. search needs)
     (λ c κs. search needs)
-    returns-4
+    (λ c. arrived (at-if1 c) refused)
     (λ c. search needs)
     (λ c κs. search needs)
     (λ c. search needs)
     (λ c. search needs)
-    returns-5
-    returns-6)
+    (λ c. missed (at-if1-left (c .before .before .before .before)) _ refl (known read (c .before .before .word .ensures) (c .enum-told4 .given .1)))
+    (λ c. arrived (at-closed (c .before)) (given-as (sym (c .before .before .before .before .before .before .attribute .ensures)))))

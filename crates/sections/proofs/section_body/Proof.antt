@@ -32,38 +32,8 @@ abbrev at-skipped : (c : tie.After-skipped) → Along (c .before .before .before
 unfolding rule.section-body
 at-skipped c = bytes _ (at-list (c .before .before .before .before)) refl (known read (c .before .before .skip .ensures) (c .skipped .given .1))
 
-returns : tie.Need-returns
-unfolding rule.section-body
-returns c = lost-here _ (enter-short (c .before .before .before .before .before .before .pre .0) (c .before .before .before .before .before .before .pre .1)) refl (known read (c .before .before .word-skip .ensures) (c .enum-told .given .1))
-
-contents-requires : tie.Need-contents-requires
-contents-requires c κs = (at-opened (c .before .before)) .room
-
-same-length : tie.Need-same-length
-same-length c = c .before .before .before .before .contents .kept .1 .0 ∙ (at-opened (c .before .before .before .before .before .before .before)) .size
-
-returns-2 : tie.Need-returns-2
-unfolding rule.section-body
-returns-2 c = halts _ (at-opened (c .before .before .before .before .before .before .before)) refl (not-counted (c .before .before .before .before .contents .result) (c .before .match2 .keys2)) (runs (c .before .before .before .before .contents .ensures)) _ (c .step .ensures)
-
-same-length-2 : tie.Need-same-length-2
-same-length-2 c = (at-list (c .before .before .before .before)) .size
-
-returns-3 : tie.Need-returns-3
-unfolding rule.section-body
-returns-3 c = lost-here _ (at-list (c .before .before .before .before)) refl (known read (c .before .before .skip .ensures) (c .enum-told2 .given .1))
-
-section-end-requires : tie.Need-section-end-requires
-section-end-requires c κs = ((at-skipped (c .before .before)) .room, omega (arith, (at-skipped (c .before .before)) .spare))
-
-same-length-3 : tie.Need-same-length-3
-same-length-3 c = c .before .before .section-end .kept .1 .0 ∙ (at-skipped (c .before .before .before .before .before)) .size
-
-returns-4 : tie.Need-returns-4
-unfolding rule.section-body
-returns-4 c = ends-here (at-skipped (c .before .before .before .before .before)) (c .before .before .section-end .ensures)
-
 pub section-body-spec : {M : Type 1} → statement M
+unfolding rule.section-body
 section-body-spec =
     tie.close
     (tie.spec
@@ -71,17 +41,17 @@ section-body-spec =
     (λ c κs. search needs)
     (λ c. search needs)
     (λ c. search needs)
-    returns
-    contents-requires
+    (λ c. lost-here _ (enter-short (c .before .before .before .before .before .before .pre .0) (c .before .before .before .before .before .before .pre .1)) refl (known read (c .before .before .word-skip .ensures) (c .enum-told .given .1)))
+    (λ c κs. (at-opened (c .before .before)) .room)
     (λ c. search needs)
     (λ c κs. search needs)
-    same-length
-    returns-2
+    (λ c. c .before .before .before .before .contents .kept .1 .0 ∙ (at-opened (c .before .before .before .before .before .before .before)) .size)
+    (λ c. halts _ (at-opened (c .before .before .before .before .before .before .before)) refl (not-counted (c .before .before .before .before .contents .result) (c .before .match2 .keys2)) (runs (c .before .before .before .before .contents .ensures)) _ (c .step .ensures))
     (λ c κs. search needs)
     (λ c. search needs)
     (λ c. search needs)
-    same-length-2
-    returns-3
-    section-end-requires
-    same-length-3
-    returns-4)
+    (λ c. (at-list (c .before .before .before .before)) .size)
+    (λ c. lost-here _ (at-list (c .before .before .before .before)) refl (known read (c .before .before .skip .ensures) (c .enum-told2 .given .1)))
+    (λ c κs. ((at-skipped (c .before .before)) .room, omega (arith, (at-skipped (c .before .before)) .spare)))
+    (λ c. c .before .before .section-end .kept .1 .0 ∙ (at-skipped (c .before .before .before .before .before)) .size)
+    (λ c. ends-here (at-skipped (c .before .before .before .before .before)) (c .before .before .section-end .ensures)))

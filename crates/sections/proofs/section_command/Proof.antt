@@ -36,76 +36,29 @@ abbrev at-keyword-of : (c : tie.After-keyword-of) → Along (c .before .before .
 unfolding rule.section-command
 at-keyword-of c = bytes _ (at-skipped (c .before .before)) refl (keyed-token (known taken (c .before .before .before .before .before .before .before .before .token .ensures) (c .before .before .before .before .before .before .name .given .1)) (c .keyword-of .ensures))
 
-returns : tie.Need-returns
-unfolding rule.section-command keyword-of numbered keywords same
-returns c = lost-here _ (enter (section-command-pays (expression-pays (c .before .before .before .before .before .args .mode) (c .before .before .before .before .before .args .left))) (c .before .before .before .before .before .pre)) refl (known taken (c .before .before .token .ensures) (c .enum-told .given .1))
-
-returns-2 : tie.Need-returns-2
-unfolding rule.section-command keyword-of numbered keywords same
-returns-2 c = lost-here _ (at-name (c .before .before .before .before)) refl (known read (c .before .before .skip .ensures) (c .enum-told2 .given .1))
-
-asserted-requires : tie.Need-asserted-requires
-asserted-requires c κs = (at-keyword-of (c .before .before)) .room
-
-provide-requires : tie.Need-provide-requires
-provide-requires c κs = (at-keyword-of (c .before .before)) .room
-
-provide-requires-2 : tie.Need-provide-requires-2
-provide-requires-2 c κs = (at-keyword-of (c .before .before)) .room
-
-section-or-assignment-requires : tie.Need-section-or-assignment-requires
-section-or-assignment-requires c κs = ((at-keyword-of (c .before .before)) .room, omega (arith, (at-keyword-of (c .before .before)) .spare))
-
-same-length : tie.Need-same-length
-same-length c = c .before .before .asserted .kept .1 .0 ∙ (at-keyword-of (c .before .before .before .before .before)) .size
-
-returns-3 : tie.Need-returns-3
-unfolding rule.section-command keyword-of numbered keywords same
-returns-3 c = ends-here (where-so (at-keyword-of (c .before .before .before .before .before)) _ _ refl (ap (λ n. n is "ASSERT") (c .before .before .before .before .match3 .keys1))) (runs (c .before .before .asserted .ensures))
-
-same-length-2 : tie.Need-same-length-2
-same-length-2 c = c .before .before .provide .kept .1 .0 ∙ (at-keyword-of (c .before .before .before .before .before)) .size
-
-returns-4 : tie.Need-returns-4
-unfolding rule.section-command keyword-of numbered keywords same
-returns-4 c = ends-here (where-so (where-not (at-keyword-of (c .before .before .before .before .before)) _ _ refl (ap (λ n. n is "ASSERT") (c .before .before .before .before .match3 .keys2))) _ _ refl (ap (λ n. n is "PROVIDE") (c .before .before .before .before .match3 .keys2))) (runs (c .before .before .provide .ensures))
-
-same-length-3 : tie.Need-same-length-3
-same-length-3 c = c .before .before .provide2 .kept .1 .0 ∙ (at-keyword-of (c .before .before .before .before .before)) .size
-
-returns-5 : tie.Need-returns-5
-unfolding rule.section-command keyword-of numbered keywords same
-returns-5 c = ends-here (where-so (where-not (where-not (at-keyword-of (c .before .before .before .before .before)) _ _ refl (ap (λ n. n is "ASSERT") (c .before .before .before .before .match3 .keys3))) _ _ refl (ap (λ n. n is "PROVIDE") (c .before .before .before .before .match3 .keys3))) _ _ refl (ap (λ n. n is "PROVIDE_HIDDEN") (c .before .before .before .before .match3 .keys3))) (runs (c .before .before .provide2 .ensures))
-
-same-length-4 : tie.Need-same-length-4
-same-length-4 c = c .before .before .section-or-assignment .kept .1 .0 ∙ (at-keyword-of (c .before .before .before .before .before)) .size
-
-returns-6 : tie.Need-returns-6
-unfolding rule.section-command keyword-of numbered keywords same
-returns-6 c = ends-here (where-not (where-not (where-not (at-keyword-of (c .before .before .before .before .before)) _ _ refl (ne-eqb _ 11 (c .before .before .before .before .match3 .rest .0 .0 .1))) _ _ refl (ne-eqb _ 9 (c .before .before .before .before .match3 .rest .0 .1))) _ _ refl (ne-eqb _ 10 (c .before .before .before .before .match3 .rest .1))) (c .before .before .section-or-assignment .ensures)
-
 pub section-command-spec : {M : Type 1} → statement M
+unfolding rule.section-command keyword-of numbered keywords same
 section-command-spec =
     tie.close
     (tie.spec
     (λ c κs. search needs)
     (λ c. search needs)
     (λ c. search needs)
-    returns
+    (λ c. lost-here _ (enter (section-command-pays (expression-pays (c .before .before .before .before .before .args .mode) (c .before .before .before .before .before .args .left))) (c .before .before .before .before .before .pre)) refl (known taken (c .before .before .token .ensures) (c .enum-told .given .1)))
     (λ c κs. search needs)
     (λ c. search needs)
     (λ c. search needs)
-    returns-2
+    (λ c. lost-here _ (at-name (c .before .before .before .before)) refl (known read (c .before .before .skip .ensures) (c .enum-told2 .given .1)))
     (λ c κs. search needs)
-    asserted-requires
-    provide-requires
-    provide-requires-2
-    section-or-assignment-requires
-    same-length
-    returns-3
-    same-length-2
-    returns-4
-    same-length-3
-    returns-5
-    same-length-4
-    returns-6)
+    (λ c κs. (at-keyword-of (c .before .before)) .room)
+    (λ c κs. (at-keyword-of (c .before .before)) .room)
+    (λ c κs. (at-keyword-of (c .before .before)) .room)
+    (λ c κs. ((at-keyword-of (c .before .before)) .room, omega (arith, (at-keyword-of (c .before .before)) .spare)))
+    (λ c. c .before .before .asserted .kept .1 .0 ∙ (at-keyword-of (c .before .before .before .before .before)) .size)
+    (λ c. ends-here (where-so (at-keyword-of (c .before .before .before .before .before)) _ _ refl (ap (λ n. n is "ASSERT") (c .before .before .before .before .match3 .keys1))) (runs (c .before .before .asserted .ensures)))
+    (λ c. c .before .before .provide .kept .1 .0 ∙ (at-keyword-of (c .before .before .before .before .before)) .size)
+    (λ c. ends-here (where-so (where-not (at-keyword-of (c .before .before .before .before .before)) _ _ refl (ap (λ n. n is "ASSERT") (c .before .before .before .before .match3 .keys2))) _ _ refl (ap (λ n. n is "PROVIDE") (c .before .before .before .before .match3 .keys2))) (runs (c .before .before .provide .ensures)))
+    (λ c. c .before .before .provide2 .kept .1 .0 ∙ (at-keyword-of (c .before .before .before .before .before)) .size)
+    (λ c. ends-here (where-so (where-not (where-not (at-keyword-of (c .before .before .before .before .before)) _ _ refl (ap (λ n. n is "ASSERT") (c .before .before .before .before .match3 .keys3))) _ _ refl (ap (λ n. n is "PROVIDE") (c .before .before .before .before .match3 .keys3))) _ _ refl (ap (λ n. n is "PROVIDE_HIDDEN") (c .before .before .before .before .match3 .keys3))) (runs (c .before .before .provide2 .ensures)))
+    (λ c. c .before .before .section-or-assignment .kept .1 .0 ∙ (at-keyword-of (c .before .before .before .before .before)) .size)
+    (λ c. ends-here (where-not (where-not (where-not (at-keyword-of (c .before .before .before .before .before)) _ _ refl (ne-eqb _ 11 (c .before .before .before .before .match3 .rest .0 .0 .1))) _ _ refl (ne-eqb _ 9 (c .before .before .before .before .match3 .rest .0 .1))) _ _ refl (ne-eqb _ 10 (c .before .before .before .before .match3 .rest .1))) (c .before .before .section-or-assignment .ensures)))

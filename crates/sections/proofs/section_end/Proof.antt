@@ -29,52 +29,23 @@ abbrev at-push : (c : tie.After-push) → Along (c .before .before .before .befo
 unfolding rule.section-end
 at-push c = pushed _ _ _ _ _ _ (at-ended (c .before .before .before)) refl (c .push .ensures) (c .push .kept .0)
 
-endings-requires : tie.Need-endings-requires
-endings-requires c κs = (c .before .before .before .pre .0)
-
-same-length : tie.Need-same-length
-same-length c = c .before .before .before .before .endings .kept .1 .0
-
-returns : tie.Need-returns
-unfolding rule.section-end
-returns c = halts _ (enter-short (c .before .before .before .before .before .before .before .before .pre .0) (c .before .before .before .before .before .before .before .before .pre .1)) refl (not-counted (c .before .before .before .before .endings .result) (c .before .match .keys2)) (runs (c .before .before .before .before .endings .ensures)) _ (c .step .ensures)
-
-same-length-2 : tie.Need-same-length-2
-same-length-2 c = (at-behind (c .before .before .before .before .before)) .size
-
-returns-2 : tie.Need-returns-2
-unfolding rule.section-end
-returns-2 c = lost-here _ (at-behind (c .before .before .before .before .before)) refl (known read (c .before .before .opt-word-skip .ensures) (c .enum-told .given .1))
-
-push-requires : tie.Need-push-requires
-push-requires c κs = can-push (at-ended (c .before .before))
-
-push-requires-2 : tie.Need-push-requires-2
-push-requires-2 c κs = can-push (at-push (c .before .before .before))
-
-same-length-3 : tie.Need-same-length-3
-same-length-3 c = c .before .before .push2 .kept .0 ∙ (at-push (c .before .before .before .before .before .before)) .size
-
-returns-3 : tie.Need-returns-3
-unfolding rule.section-end
-returns-3 c = ends-here (at-push (c .before .before .before .before .before .before)) (added _ _ _ _ _ (c .before .before .push2 .ensures) (can-push (at-push (c .before .before .before .before .before .before))))
-
 pub section-end-spec : {M : Type 1} → statement M
+unfolding rule.section-end
 section-end-spec =
     tie.close
     (tie.spec
-    endings-requires
+    (λ c κs. (c .before .before .before .pre .0))
     (λ c. search needs)
     (λ c κs. search needs)
-    same-length
-    returns
+    (λ c. c .before .before .before .before .endings .kept .1 .0)
+    (λ c. halts _ (enter-short (c .before .before .before .before .before .before .before .before .pre .0) (c .before .before .before .before .before .before .before .before .pre .1)) refl (not-counted (c .before .before .before .before .endings .result) (c .before .match .keys2)) (runs (c .before .before .before .before .endings .ensures)) _ (c .step .ensures))
     (λ c. search needs)
     (λ c κs. search needs)
     (λ c. search needs)
     (λ c. search needs)
-    same-length-2
-    returns-2
-    push-requires
-    push-requires-2
-    same-length-3
-    returns-3)
+    (λ c. (at-behind (c .before .before .before .before .before)) .size)
+    (λ c. lost-here _ (at-behind (c .before .before .before .before .before)) refl (known read (c .before .before .opt-word-skip .ensures) (c .enum-told .given .1)))
+    (λ c κs. can-push (at-ended (c .before .before)))
+    (λ c κs. can-push (at-push (c .before .before .before)))
+    (λ c. c .before .before .push2 .kept .0 ∙ (at-push (c .before .before .before .before .before .before)) .size)
+    (λ c. ends-here (at-push (c .before .before .before .before .before .before)) (added _ _ _ _ _ (c .before .before .push2 .ensures) (can-push (at-push (c .before .before .before .before .before .before))))))

@@ -27,39 +27,17 @@ abbrev at-sign : (c : tie.After-sign) → Along (c .before .before .before .befo
 unfolding rule.section-or-assignment perhaps
 at-sign c = gained-opt _ (assignment-op-pays _ _) (enter-short (c .before .before .before .before .before .before .before .before .pre .0) (c .before .before .before .before .before .before .before .before .pre .1)) refl (known-read operated (c .before .before .before .before .assignment-op .ensures) (c .sign .given .1)) (c .before .before .before .before .assignment-op .kept .1 .0)
 
-assignment-op-requires : tie.Need-assignment-op-requires
-assignment-op-requires c κs = (c .before .before .before .pre .0)
-
-section-requires : tie.Need-section-requires
-section-requires c κs = ((at-enum-told (c .before)) .room, omega (arith, (at-enum-told (c .before)) .spare))
-
-same-length : tie.Need-same-length
-same-length c = c .before .before .section .kept .1 .0 ∙ (at-enum-told (c .before .before .before .before)) .size
-
-returns : tie.Need-returns
-unfolding rule.section-or-assignment perhaps
-returns c = ends-here (at-enum-told (c .before .before .before .before)) (c .before .before .section .ensures)
-
-section-assignment-requires : tie.Need-section-assignment-requires
-section-assignment-requires c κs = ((at-sign (c .before .before)) .room, omega (arith, (at-sign (c .before .before)) .spare))
-
-same-length-2 : tie.Need-same-length-2
-same-length-2 c = c .before .before .section-assignment .kept .1 .0 ∙ (at-sign (c .before .before .before .before .before)) .size
-
-returns-2 : tie.Need-returns-2
-unfolding rule.section-or-assignment perhaps
-returns-2 c = ends-here (at-sign (c .before .before .before .before .before)) (c .before .before .section-assignment .ensures)
-
 pub section-or-assignment-spec : {M : Type 1} → statement M
+unfolding rule.section-or-assignment perhaps
 section-or-assignment-spec =
     tie.close
     (tie.spec
-    assignment-op-requires
+    (λ c κs. (c .before .before .before .pre .0))
     (λ c. search needs)
     (λ c. search needs)
-    section-requires
-    same-length
-    returns
-    section-assignment-requires
-    same-length-2
-    returns-2)
+    (λ c κs. ((at-enum-told (c .before)) .room, omega (arith, (at-enum-told (c .before)) .spare)))
+    (λ c. c .before .before .section .kept .1 .0 ∙ (at-enum-told (c .before .before .before .before)) .size)
+    (λ c. ends-here (at-enum-told (c .before .before .before .before)) (c .before .before .section .ensures))
+    (λ c κs. ((at-sign (c .before .before)) .room, omega (arith, (at-sign (c .before .before)) .spare)))
+    (λ c. c .before .before .section-assignment .kept .1 .0 ∙ (at-sign (c .before .before .before .before .before)) .size)
+    (λ c. ends-here (at-sign (c .before .before .before .before .before)) (c .before .before .section-assignment .ensures)))

@@ -27,43 +27,20 @@ abbrev at-skipped : (c : tie.After-skipped) → Along (c .before .before .before
 unfolding rule.start-expression
 at-skipped c = bytes _ (at-value (c .before .before .before .before)) refl (known read (c .before .before .skip .ensures) (c .skipped .given .1))
 
-expression-requires : tie.Need-expression-requires
-expression-requires c κs = (enter (start-expression-pays (expression-pays (c .before .before .before .args .mode) (c .before .before .before .args .left)) (c .before .before .before .args .so-far)) (c .before .before .before .pre)) .room
-
-same-length : tie.Need-same-length
-same-length c = c .before .before .before .before .expression .kept .1 .0 ∙ (enter (start-expression-pays (expression-pays (c .before .before .before .before .before .before .before .before .args .mode) (c .before .before .before .before .before .before .before .before .args .left)) (c .before .before .before .before .before .before .before .before .args .so-far)) (c .before .before .before .before .before .before .before .before .pre)) .size
-
-returns : tie.Need-returns
-unfolding rule.start-expression
-returns c = halts _ (enter (start-expression-pays (expression-pays (c .before .before .before .before .before .before .before .before .args .mode) (c .before .before .before .before .before .before .before .before .args .left)) (c .before .before .before .before .before .before .before .before .args .so-far)) (c .before .before .before .before .before .before .before .before .pre)) refl (not-stepped (c .before .before .before .before .expression .result) (c .before .match .keys2)) (runs (c .before .before .before .before .expression .ensures)) _ (c .with-heading .ensures)
-
-same-length-2 : tie.Need-same-length-2
-same-length-2 c = (at-value (c .before .before .before .before)) .size
-
-returns-2 : tie.Need-returns-2
-unfolding rule.start-expression
-returns-2 c = lost-here _ (at-value (c .before .before .before .before)) refl (known read (c .before .before .skip .ensures) (c .enum-told .given .1))
-
-same-length-3 : tie.Need-same-length-3
-same-length-3 c = (at-skipped (c .before)) .size
-
-returns-3 : tie.Need-returns-3
-unfolding rule.start-expression
-returns-3 c = ends-here (at-skipped (c .before)) (as-bytes (given _))
-
 pub start-expression-spec : {M : Type 1} → statement M
+unfolding rule.start-expression
 start-expression-spec =
     tie.close
     (tie.spec
-    expression-requires
+    (λ c κs. (enter (start-expression-pays (expression-pays (c .before .before .before .args .mode) (c .before .before .before .args .left)) (c .before .before .before .args .so-far)) (c .before .before .before .pre)) .room)
     (λ c. search needs)
     (λ c κs. search needs)
-    same-length
-    returns
+    (λ c. c .before .before .before .before .expression .kept .1 .0 ∙ (enter (start-expression-pays (expression-pays (c .before .before .before .before .before .before .before .before .args .mode) (c .before .before .before .before .before .before .before .before .args .left)) (c .before .before .before .before .before .before .before .before .args .so-far)) (c .before .before .before .before .before .before .before .before .pre)) .size)
+    (λ c. halts _ (enter (start-expression-pays (expression-pays (c .before .before .before .before .before .before .before .before .args .mode) (c .before .before .before .before .before .before .before .before .args .left)) (c .before .before .before .before .before .before .before .before .args .so-far)) (c .before .before .before .before .before .before .before .before .pre)) refl (not-stepped (c .before .before .before .before .expression .result) (c .before .match .keys2)) (runs (c .before .before .before .before .expression .ensures)) _ (c .with-heading .ensures))
     (λ c κs. search needs)
     (λ c. search needs)
     (λ c. search needs)
-    same-length-2
-    returns-2
-    same-length-3
-    returns-3)
+    (λ c. (at-value (c .before .before .before .before)) .size)
+    (λ c. lost-here _ (at-value (c .before .before .before .before)) refl (known read (c .before .before .skip .ensures) (c .enum-told .given .1)))
+    (λ c. (at-skipped (c .before)) .size)
+    (λ c. ends-here (at-skipped (c .before)) (as-bytes (given _))))

@@ -6,9 +6,6 @@ use borrow.Author.Needs.{needs}
 use Rattle.sections.proofs.with_heading.Statement.{statement}
 use Rattle.sections.proofs.with_heading.Tie as tie
 
-returns : tie.Need-returns
-returns c = sym (ap (λ r. valued (c .before .before .before .args .head) (stepped r)) (c .before .step .given .1))
-
 pub with-heading-spec : {M : Type 1} → statement M
 with-heading-spec =
     tie.close
@@ -16,6 +13,6 @@ with-heading-spec =
     (λ c. search needs)
     (λ c. search needs)
     (λ c. search needs)
-    returns
+    (λ c. sym (ap (λ r. valued (c .before .before .before .args .head) (stepped r)) (c .before .step .given .1)))
     (λ c. search needs)
     (λ c. search needs))

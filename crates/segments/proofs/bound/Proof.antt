@@ -27,37 +27,20 @@ abbrev at-equals : (c : tie.After-equals) → Along (c .before .before .before .
 unfolding rule.bound
 at-equals c = bytes _ (at-named (c .before .before .before .before .before)) refl (known read (c .before .before .skip-word-skip .ensures) (c .equals .given .1))
 
-returns : tie.Need-returns
-unfolding rule.bound
-returns c = lost-here _ (enter (bound-pays (expression-pays (c .before .before .before .before .before .before .before .before .args .mode) (c .before .before .before .before .before .before .before .before .args .left)) (c .before .before .before .before .before .before .before .before .args .long .now) (c .before .before .before .before .before .before .before .before .args .short .now) (c .before .before .before .before .before .before .before .before .args .letter .now)) (c .before .before .before .before .before .before .before .before .pre)) refl (known operated (c .before .before .sign-of-three .ensures) (c .enum-told .given .1))
-
-returns-2 : tie.Need-returns-2
-unfolding rule.bound
-returns-2 c = lost-here _ (at-named (c .before .before .before .before .before)) refl (known read (c .before .before .skip-word-skip .ensures) (c .enum-told2 .given .1))
-
-expression-requires : tie.Need-expression-requires
-expression-requires c κs = (at-equals (c .before .before)) .room
-
-same-length : tie.Need-same-length
-same-length c = c .before .before .expression .kept .1 .0 ∙ (at-equals (c .before .before .before .before .before)) .size
-
-returns-3 : tie.Need-returns-3
-unfolding rule.bound
-returns-3 c = ends-here (at-equals (c .before .before .before .before .before)) (runs (c .before .before .expression .ensures))
-
 pub bound-spec : {M : Type 1} → statement M
+unfolding rule.bound
 bound-spec =
     tie.close
     (tie.spec
     (λ c κs. search needs)
     (λ c. search needs)
     (λ c. search needs)
-    returns
+    (λ c. lost-here _ (enter (bound-pays (expression-pays (c .before .before .before .before .before .before .before .before .args .mode) (c .before .before .before .before .before .before .before .before .args .left)) (c .before .before .before .before .before .before .before .before .args .long .now) (c .before .before .before .before .before .before .before .before .args .short .now) (c .before .before .before .before .before .before .before .before .args .letter .now)) (c .before .before .before .before .before .before .before .before .pre)) refl (known operated (c .before .before .sign-of-three .ensures) (c .enum-told .given .1)))
     (λ c. search needs)
     (λ c κs. search needs)
     (λ c. search needs)
     (λ c. search needs)
-    returns-2
-    expression-requires
-    same-length
-    returns-3)
+    (λ c. lost-here _ (at-named (c .before .before .before .before .before)) refl (known read (c .before .before .skip-word-skip .ensures) (c .enum-told2 .given .1)))
+    (λ c κs. (at-equals (c .before .before)) .room)
+    (λ c. c .before .before .expression .kept .1 .0 ∙ (at-equals (c .before .before .before .before .before)) .size)
+    (λ c. ends-here (at-equals (c .before .before .before .before .before)) (runs (c .before .before .expression .ensures))))

@@ -39,61 +39,27 @@ abbrev at-closed : (c : tie.After-closed) → Along (c .before .before .before .
 unfolding rule.flag-clause
 at-closed c = bytes _ (at-value (c .before .before .before .before .before)) refl (known read (c .before .before .word2 .ensures) (c .closed .given .1))
 
-returns : tie.Need-returns
-unfolding rule.flag-clause
-returns c = ends-here (at-if1 c) (as-bytes (given _))
-
-returns-2 : tie.Need-returns-2
-unfolding rule.flag-clause
-returns-2 c = lost-here _ (at-if1-left (c .before .before .before .before)) refl (known read (c .before .before .word .ensures) (c .enum-told .given .1))
-
-expression-requires : tie.Need-expression-requires
-expression-requires c κs = (at-opened (c .before .before)) .room
-
-same-length : tie.Need-same-length
-same-length c = c .before .before .before .expression .kept .1 .0 ∙ (at-opened (c .before .before .before .before .before .before)) .size
-
-returns-3 : tie.Need-returns-3
-unfolding rule.flag-clause
-returns-3 c = halts _ (at-opened (c .before .before .before .before .before .before)) refl (not-stepped (c .before .before .before .expression .result) (c .match2 .keys2)) (runs (c .before .before .before .expression .ensures)) tt (as-it-is (stepped (c .before .before .before .expression .result)))
-
-same-length-2 : tie.Need-same-length-2
-same-length-2 c = (at-value (c .before .before .before .before .before)) .size
-
-returns-4 : tie.Need-returns-4
-unfolding rule.flag-clause
-returns-4 c = lost-here _ (at-value (c .before .before .before .before .before)) refl (known read (c .before .before .word2 .ensures) (c .enum-told2 .given .1))
-
-push-requires : tie.Need-push-requires
-push-requires c κs = can-push (at-closed (c .before .before))
-
-same-length-3 : tie.Need-same-length-3
-same-length-3 c = c .before .before .push .kept .0 ∙ (at-closed (c .before .before .before .before .before)) .size
-
-returns-5 : tie.Need-returns-5
-unfolding rule.flag-clause
-returns-5 c = ends-here (at-closed (c .before .before .before .before .before)) (added _ _ _ _ _ (c .before .before .push .ensures) (can-push (at-closed (c .before .before .before .before .before))))
-
 pub flag-clause-spec : {M : Type 1} → statement M
+unfolding rule.flag-clause
 flag-clause-spec =
     tie.close
     (tie.spec
-    returns
+    (λ c. ends-here (at-if1 c) (as-bytes (given _)))
     (λ c. search needs)
     (λ c κs. search needs)
     (λ c. search needs)
     (λ c. search needs)
-    returns-2
-    expression-requires
+    (λ c. lost-here _ (at-if1-left (c .before .before .before .before)) refl (known read (c .before .before .word .ensures) (c .enum-told .given .1)))
+    (λ c κs. (at-opened (c .before .before)) .room)
     (λ c. search needs)
-    same-length
-    returns-3
+    (λ c. c .before .before .before .expression .kept .1 .0 ∙ (at-opened (c .before .before .before .before .before .before)) .size)
+    (λ c. halts _ (at-opened (c .before .before .before .before .before .before)) refl (not-stepped (c .before .before .before .expression .result) (c .match2 .keys2)) (runs (c .before .before .before .expression .ensures)) tt (as-it-is (stepped (c .before .before .before .expression .result))))
     (λ c. search needs)
     (λ c κs. search needs)
     (λ c. search needs)
     (λ c. search needs)
-    same-length-2
-    returns-4
-    push-requires
-    same-length-3
-    returns-5)
+    (λ c. (at-value (c .before .before .before .before .before)) .size)
+    (λ c. lost-here _ (at-value (c .before .before .before .before .before)) refl (known read (c .before .before .word2 .ensures) (c .enum-told2 .given .1)))
+    (λ c κs. can-push (at-closed (c .before .before)))
+    (λ c. c .before .before .push .kept .0 ∙ (at-closed (c .before .before .before .before .before)) .size)
+    (λ c. ends-here (at-closed (c .before .before .before .before .before)) (added _ _ _ _ _ (c .before .before .push .ensures) (can-push (at-closed (c .before .before .before .before .before))))))

@@ -41,84 +41,40 @@ abbrev at-length : (c : tie.After-length) → Along (c .before .before .before .
 unfolding rule.memory-region
 at-length c = called _ (at-comma (c .before .before .before .before .before .before .before .before .before .before)) refl (known-read stepped (c .before .before .before .before .bound2 .ensures) (c .length .given .1)) (c .before .before .before .before .bound2 .kept .1 .0)
 
-returns : tie.Need-returns
-unfolding rule.memory-region
-returns c = lost-here _ (enter (memory-region-pays (expression-pays (c .before .before .before .before .before .args .mode) (c .before .before .before .before .before .args .left))) (c .before .before .before .before .before .pre)) refl (known taken (c .before .before .token .ensures) (c .enum-told .given .1))
-
-returns-2 : tie.Need-returns-2
-unfolding rule.memory-region
-returns-2 c = lost-here _ (at-name (c .before .before .before .before .before)) refl (known read (c .before .before .skip-word-skip .ensures) (c .enum-told2 .given .1))
-
-bound-requires : tie.Need-bound-requires
-bound-requires c κs = (at-colon (c .before .before .before .before .before)) .room
-
-same-length : tie.Need-same-length
-same-length c = c .before .before .before .bound .kept .1 .0 ∙ (at-colon (c .before .before .before .before .before .before .before .before .before)) .size
-
-returns-3 : tie.Need-returns-3
-unfolding rule.memory-region
-returns-3 c = halts _ (at-colon (c .before .before .before .before .before .before .before .before .before)) refl (not-stepped (c .before .before .before .bound .result) (c .match3 .keys2)) (runs (c .before .before .before .bound .ensures)) tt (as-it-is (stepped (c .before .before .before .bound .result)))
-
-same-length-2 : tie.Need-same-length-2
-same-length-2 c = (at-origin (c .before .before .before .before .before)) .size
-
-returns-4 : tie.Need-returns-4
-unfolding rule.memory-region
-returns-4 c = lost-here _ (at-origin (c .before .before .before .before .before)) refl (known read (c .before .before .skip-word-skip2 .ensures) (c .enum-told3 .given .1))
-
-bound-requires-2 : tie.Need-bound-requires-2
-bound-requires-2 c κs = (at-comma (c .before .before .before .before .before)) .room
-
-same-length-3 : tie.Need-same-length-3
-same-length-3 c = c .before .before .before .bound2 .kept .1 .0 ∙ (at-comma (c .before .before .before .before .before .before .before .before .before)) .size
-
-returns-5 : tie.Need-returns-5
-unfolding rule.memory-region
-returns-5 c = halts _ (at-comma (c .before .before .before .before .before .before .before .before .before)) refl (not-stepped (c .before .before .before .bound2 .result) (c .match5 .keys2)) (runs (c .before .before .before .bound2 .ensures)) tt (as-it-is (stepped (c .before .before .before .bound2 .result)))
-
-push-requires : tie.Need-push-requires
-push-requires c κs = can-push (at-length (c .before .before))
-
-same-length-4 : tie.Need-same-length-4
-same-length-4 c = c .before .before .push .kept .0 ∙ (at-length (c .before .before .before .before .before)) .size
-
-returns-6 : tie.Need-returns-6
-unfolding rule.memory-region
-returns-6 c = ends-here (at-length (c .before .before .before .before .before)) (added _ _ _ _ _ (c .before .before .push .ensures) (can-push (at-length (c .before .before .before .before .before))))
-
 pub memory-region-spec : {M : Type 1} → statement M
+unfolding rule.memory-region
 memory-region-spec =
     tie.close
     (tie.spec
     (λ c κs. search needs)
     (λ c. search needs)
     (λ c. search needs)
-    returns
+    (λ c. lost-here _ (enter (memory-region-pays (expression-pays (c .before .before .before .before .before .args .mode) (c .before .before .before .before .before .args .left))) (c .before .before .before .before .before .pre)) refl (known taken (c .before .before .token .ensures) (c .enum-told .given .1)))
     (λ c. search needs)
     (λ c κs. search needs)
     (λ c. search needs)
     (λ c. search needs)
-    returns-2
+    (λ c. lost-here _ (at-name (c .before .before .before .before .before)) refl (known read (c .before .before .skip-word-skip .ensures) (c .enum-told2 .given .1)))
     (λ c. search needs)
     (λ c. search needs)
     (λ c. search needs)
-    bound-requires
+    (λ c κs. (at-colon (c .before .before .before .before .before)) .room)
     (λ c. search needs)
-    same-length
-    returns-3
+    (λ c. c .before .before .before .bound .kept .1 .0 ∙ (at-colon (c .before .before .before .before .before .before .before .before .before)) .size)
+    (λ c. halts _ (at-colon (c .before .before .before .before .before .before .before .before .before)) refl (not-stepped (c .before .before .before .bound .result) (c .match3 .keys2)) (runs (c .before .before .before .bound .ensures)) tt (as-it-is (stepped (c .before .before .before .bound .result))))
     (λ c. search needs)
     (λ c κs. search needs)
     (λ c. search needs)
     (λ c. search needs)
-    same-length-2
-    returns-4
+    (λ c. (at-origin (c .before .before .before .before .before)) .size)
+    (λ c. lost-here _ (at-origin (c .before .before .before .before .before)) refl (known read (c .before .before .skip-word-skip2 .ensures) (c .enum-told3 .given .1)))
     (λ c. search needs)
     (λ c. search needs)
     (λ c. search needs)
-    bound-requires-2
+    (λ c κs. (at-comma (c .before .before .before .before .before)) .room)
     (λ c. search needs)
-    same-length-3
-    returns-5
-    push-requires
-    same-length-4
-    returns-6)
+    (λ c. c .before .before .before .bound2 .kept .1 .0 ∙ (at-comma (c .before .before .before .before .before .before .before .before .before)) .size)
+    (λ c. halts _ (at-comma (c .before .before .before .before .before .before .before .before .before)) refl (not-stepped (c .before .before .before .bound2 .result) (c .match5 .keys2)) (runs (c .before .before .before .bound2 .ensures)) tt (as-it-is (stepped (c .before .before .before .bound2 .result))))
+    (λ c κs. can-push (at-length (c .before .before)))
+    (λ c. c .before .before .push .kept .0 ∙ (at-length (c .before .before .before .before .before)) .size)
+    (λ c. ends-here (at-length (c .before .before .before .before .before)) (added _ _ _ _ _ (c .before .before .push .ensures) (can-push (at-length (c .before .before .before .before .before))))))

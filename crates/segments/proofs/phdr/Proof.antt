@@ -52,91 +52,40 @@ abbrev at-headers : (c : tie.After-headers) → Along (c .before .before .before
 unfolding rule.phdr
 at-headers c = same-as (at-ended (c .before .before)) (ap (λ n. add 54 (c .before .before .before .before .before .before .before .before .before .before .before .before .before .before .before .before .before .before .before .before .before .before .before .before .before .before .before .before .before .name .given .0 .0 .start) (c .before .before .before .before .before .before .before .before .before .before .before .before .before .before .before .before .before .before .before .before .before .before .before .before .before .before .before .before .before .name .given .0 .0 .len) n (c .before .before .before .before .before .before .before .words .given .0 .0 .flags)) (sym (c .headers .ensures)))
 
-returns : tie.Need-returns
-unfolding rule.phdr
-returns c = lost-here _ (enter (phdr-pays (expression-pays (c .before .before .before .before .before .args .mode) (c .before .before .before .before .before .args .left))) (c .before .before .before .before .before .pre)) refl (known taken (c .before .before .token .ensures) (c .enum-told .given .1))
-
-returns-2 : tie.Need-returns-2
-unfolding rule.phdr
-returns-2 c = lost-here _ (at-name (c .before .before .before .before)) refl (known read (c .before .before .skip .ensures) (c .enum-told2 .given .1))
-
-segment-kind-requires : tie.Need-segment-kind-requires
-segment-kind-requires c κs = (at-before2 (c .before .before)) .room
-
-same-length : tie.Need-same-length
-same-length c = c .before .before .before .segment-kind .kept .1 .0 ∙ (at-before2 (c .before .before .before .before .before .before)) .size
-
-returns-3 : tie.Need-returns-3
-unfolding rule.phdr
-returns-3 c = halts _ (at-before2 (c .before .before .before .before .before .before)) refl (not-stepped (c .before .before .before .segment-kind .result) (c .match3 .keys2)) (runs (c .before .before .before .segment-kind .ensures)) tt (as-it-is (stepped (c .before .before .before .segment-kind .result)))
-
-same-length-2 : tie.Need-same-length-2
-same-length-2 c = (at-kind (c .before .before .before .before)) .size
-
-returns-4 : tie.Need-returns-4
-unfolding rule.phdr
-returns-4 c = lost-here _ (at-kind (c .before .before .before .before)) refl (known read (c .before .before .skip2 .ensures) (c .enum-told3 .given .1))
-
-segment-words-requires : tie.Need-segment-words-requires
-segment-words-requires c κs = (at-behind (c .before .before)) .room
-
-same-length-3 : tie.Need-same-length-3
-same-length-3 c = c .before .before .before .before .segment-words .kept .1 .0 ∙ (at-behind (c .before .before .before .before .before .before .before)) .size
-
-returns-5 : tie.Need-returns-5
-unfolding rule.phdr
-returns-5 c = halts _ (at-behind (c .before .before .before .before .before .before .before)) refl (not-worded (c .before .before .before .before .segment-words .result) (c .before .match5 .keys2)) (runs (c .before .before .before .before .segment-words .ensures)) _ (c .step .ensures)
-
-same-length-4 : tie.Need-same-length-4
-same-length-4 c = (at-words (c .before .before .before .before .before)) .size
-
-returns-6 : tie.Need-returns-6
-unfolding rule.phdr
-returns-6 c = lost-here _ (at-words (c .before .before .before .before .before)) refl (known read (c .before .before .opt-word-skip .ensures) (c .enum-told4 .given .1))
-
-push-requires : tie.Need-push-requires
-push-requires c κs = can-push (at-headers (c .before))
-
-same-length-5 : tie.Need-same-length-5
-same-length-5 c = c .before .before .push .kept .0 ∙ (at-headers (c .before .before .before .before)) .size
-
-returns-7 : tie.Need-returns-7
-unfolding rule.phdr
-returns-7 c = ends-here (at-headers (c .before .before .before .before)) (added _ _ _ _ _ (c .before .before .push .ensures) (can-push (at-headers (c .before .before .before .before))))
-
 pub phdr-spec : {M : Type 1} → statement M
+unfolding rule.phdr
 phdr-spec =
     tie.close
     (tie.spec
     (λ c κs. search needs)
     (λ c. search needs)
     (λ c. search needs)
-    returns
+    (λ c. lost-here _ (enter (phdr-pays (expression-pays (c .before .before .before .before .before .args .mode) (c .before .before .before .before .before .args .left))) (c .before .before .before .before .before .pre)) refl (known taken (c .before .before .token .ensures) (c .enum-told .given .1)))
     (λ c κs. search needs)
     (λ c. search needs)
     (λ c. search needs)
-    returns-2
-    segment-kind-requires
+    (λ c. lost-here _ (at-name (c .before .before .before .before)) refl (known read (c .before .before .skip .ensures) (c .enum-told2 .given .1)))
+    (λ c κs. (at-before2 (c .before .before)) .room)
     (λ c. search needs)
-    same-length
-    returns-3
+    (λ c. c .before .before .before .segment-kind .kept .1 .0 ∙ (at-before2 (c .before .before .before .before .before .before)) .size)
+    (λ c. halts _ (at-before2 (c .before .before .before .before .before .before)) refl (not-stepped (c .before .before .before .segment-kind .result) (c .match3 .keys2)) (runs (c .before .before .before .segment-kind .ensures)) tt (as-it-is (stepped (c .before .before .before .segment-kind .result))))
     (λ c κs. search needs)
     (λ c. search needs)
     (λ c. search needs)
-    same-length-2
-    returns-4
-    segment-words-requires
+    (λ c. (at-kind (c .before .before .before .before)) .size)
+    (λ c. lost-here _ (at-kind (c .before .before .before .before)) refl (known read (c .before .before .skip2 .ensures) (c .enum-told3 .given .1)))
+    (λ c κs. (at-behind (c .before .before)) .room)
     (λ c. search needs)
     (λ c κs. search needs)
-    same-length-3
-    returns-5
+    (λ c. c .before .before .before .before .segment-words .kept .1 .0 ∙ (at-behind (c .before .before .before .before .before .before .before)) .size)
+    (λ c. halts _ (at-behind (c .before .before .before .before .before .before .before)) refl (not-worded (c .before .before .before .before .segment-words .result) (c .before .match5 .keys2)) (runs (c .before .before .before .before .segment-words .ensures)) _ (c .step .ensures))
     (λ c. search needs)
     (λ c κs. search needs)
     (λ c. search needs)
     (λ c. search needs)
-    same-length-4
-    returns-6
+    (λ c. (at-words (c .before .before .before .before .before)) .size)
+    (λ c. lost-here _ (at-words (c .before .before .before .before .before)) refl (known read (c .before .before .opt-word-skip .ensures) (c .enum-told4 .given .1)))
     (λ c κs. search needs)
-    push-requires
-    same-length-5
-    returns-7)
+    (λ c κs. can-push (at-headers (c .before)))
+    (λ c. c .before .before .push .kept .0 ∙ (at-headers (c .before .before .before .before)) .size)
+    (λ c. ends-here (at-headers (c .before .before .before .before)) (added _ _ _ _ _ (c .before .before .push .ensures) (can-push (at-headers (c .before .before .before .before))))))

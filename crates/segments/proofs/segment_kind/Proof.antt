@@ -30,35 +30,16 @@ abbrev at-if1-left : (c : tie.Else1) → Along (c .before .before .before .befor
 unfolding rule.segment-kind
 at-if1-left c = where-not (at-starts (c .before)) _ _ refl (c .if1 .left)
 
-segment-number-requires : tie.Need-segment-number-requires
-segment-number-requires c κs = (at-if1 (c .before)) .room
-
-same-length : tie.Need-same-length
-same-length c = c .before .before .segment-number .kept .1 .0 ∙ (at-if1 (c .before .before .before .before)) .size
-
-returns : tie.Need-returns
-unfolding rule.segment-kind
-returns c = ends-here (at-if1 (c .before .before .before .before)) (runs (c .before .before .segment-number .ensures))
-
-expression-requires : tie.Need-expression-requires
-expression-requires c κs = (at-if1-left (c .before)) .room
-
-same-length-2 : tie.Need-same-length-2
-same-length-2 c = c .before .before .expression .kept .1 .0 ∙ (at-if1-left (c .before .before .before .before)) .size
-
-returns-2 : tie.Need-returns-2
-unfolding rule.segment-kind
-returns-2 c = ends-here (at-if1-left (c .before .before .before .before)) (runs (c .before .before .expression .ensures))
-
 pub segment-kind-spec : {M : Type 1} → statement M
+unfolding rule.segment-kind
 segment-kind-spec =
     tie.close
     (tie.spec
     (λ c. search needs)
     (λ c κs. search needs)
-    segment-number-requires
-    same-length
-    returns
-    expression-requires
-    same-length-2
-    returns-2)
+    (λ c κs. (at-if1 (c .before)) .room)
+    (λ c. c .before .before .segment-number .kept .1 .0 ∙ (at-if1 (c .before .before .before .before)) .size)
+    (λ c. ends-here (at-if1 (c .before .before .before .before)) (runs (c .before .before .segment-number .ensures)))
+    (λ c κs. (at-if1-left (c .before)) .room)
+    (λ c. c .before .before .expression .kept .1 .0 ∙ (at-if1-left (c .before .before .before .before)) .size)
+    (λ c. ends-here (at-if1-left (c .before .before .before .before)) (runs (c .before .before .expression .ensures))))

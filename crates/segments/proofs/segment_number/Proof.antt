@@ -39,37 +39,20 @@ abbrev at-kind : (c : tie.After-kind) → Along (c .before .before .before .befo
 unfolding rule.segment-number perhaps
 at-kind c = same-as (at-keyword-of (c .before .before .before)) (ap (λ o. perhaps o fails (λ n. add 1 n 0 0 0)) (sym (c .before .before .segment-type .ensures) ∙ ap typed (c .kind .given .1)))
 
-returns : tie.Need-returns
-unfolding rule.segment-number perhaps
-returns c = lost-here _ (enter (segment-number-pays) (c .before .before .before .before .before .pre)) refl (known taken (c .before .before .token .ensures) (c .enum-told .given .1))
-
-returns-2 : tie.Need-returns-2
-unfolding rule.segment-number perhaps
-returns-2 c = ends-here (at-enum-told2 c) (as-lost refused)
-
-push-requires : tie.Need-push-requires
-push-requires c κs = can-push (at-kind (c .before .before))
-
-same-length : tie.Need-same-length
-same-length c = c .before .before .push .kept .0 ∙ (at-kind (c .before .before .before .before .before)) .size
-
-returns-3 : tie.Need-returns-3
-unfolding rule.segment-number perhaps
-returns-3 c = ends-here (at-kind (c .before .before .before .before .before)) (added _ _ _ _ _ (c .before .before .push .ensures) (can-push (at-kind (c .before .before .before .before .before))))
-
 pub segment-number-spec : {M : Type 1} → statement M
+unfolding rule.segment-number perhaps
 segment-number-spec =
     tie.close
     (tie.spec
     (λ c κs. search needs)
     (λ c. search needs)
     (λ c. search needs)
-    returns
+    (λ c. lost-here _ (enter (segment-number-pays) (c .before .before .before .before .before .pre)) refl (known taken (c .before .before .token .ensures) (c .enum-told .given .1)))
     (λ c κs. search needs)
     (λ c κs. search needs)
     (λ c. search needs)
     (λ c. search needs)
-    returns-2
-    push-requires
-    same-length
-    returns-3)
+    (λ c. ends-here (at-enum-told2 c) (as-lost refused))
+    (λ c κs. can-push (at-kind (c .before .before)))
+    (λ c. c .before .before .push .kept .0 ∙ (at-kind (c .before .before .before .before .before)) .size)
+    (λ c. ends-here (at-kind (c .before .before .before .before .before)) (added _ _ _ _ _ (c .before .before .push .ensures) (can-push (at-kind (c .before .before .before .before .before))))))

@@ -58,95 +58,41 @@ abbrev at-behind : (c : tie.After-behind Inv-loop μ-loop) → Along (c .before 
 unfolding rule.segment-words rule.segment-words-from rule.segment-word perhaps
 at-behind c = bytes _ (at-flag (c .before .before .before .before)) refl (known read (c .before .before .skip2 .ensures) (c .behind .given .1))
 
-loop-holds : tie.Need-loop-holds Inv-loop μ-loop
-unfolding rule.segment-words rule.segment-words-from rule.segment-word perhaps
-loop-holds c = (record { way = bytes _ (enter (segment-words-pays (expression-pays (c .before .before .args .mode) (c .before .before .args .left))) (c .before .before .pre)) refl sized; left = ap (λ n. rule.segment-words-from (expression (c .before .before .args .mode) (c .before .before .args .left)) n (segment-of false false 0)) (sym (add-one (length (c .before .before .args .script .now)))) }, omega arith)
-
-same-length : tie.Need-same-length Inv-loop μ-loop
-same-length c = (at-enum-told c) .size
-
-returns : tie.Need-returns Inv-loop μ-loop
-unfolding rule.segment-words rule.segment-words-from rule.segment-word perhaps
-returns c = ends-here (at-enum-told c) (as-bytes (given _))
-
-same-length-2 : tie.Need-same-length-2 Inv-loop μ-loop
-same-length-2 c = (at-found (c .before .before .before .before)) .size
-
-returns-2 : tie.Need-returns-2 Inv-loop μ-loop
-unfolding rule.segment-words rule.segment-words-from rule.segment-word perhaps
-returns-2 c = lost-here _ (at-found (c .before .before .before .before)) refl (known read (c .before .before .skip .ensures) (c .enum-told2 .given .1))
-
-flag-clause-requires : tie.Need-flag-clause-requires Inv-loop μ-loop
-flag-clause-requires c κs = ((at-before2 (c .before .before)) .room, omega (arith, (at-before2 (c .before .before)) .spare))
-
-same-length-3 : tie.Need-same-length-3 Inv-loop μ-loop
-same-length-3 c = c .before .before .before .before .flag-clause .kept .1 .0 ∙ (at-before2 (c .before .before .before .before .before .before .before)) .size
-
-returns-3 : tie.Need-returns-3 Inv-loop μ-loop
-unfolding rule.segment-words rule.segment-words-from rule.segment-word perhaps
-returns-3 c = halts _ (at-before2 (c .before .before .before .before .before .before .before)) refl (not-stepped (c .before .before .before .before .flag-clause .result) (c .before .match3 .keys2)) (c .before .before .before .before .flag-clause .ensures) _ (c .with-words .ensures)
-
-same-length-4 : tie.Need-same-length-4 Inv-loop μ-loop
-same-length-4 c = (at-flag (c .before .before .before .before)) .size
-
-returns-4 : tie.Need-returns-4 Inv-loop μ-loop
-unfolding rule.segment-words rule.segment-words-from rule.segment-word perhaps
-returns-4 c = lost-here _ (at-flag (c .before .before .before .before)) refl (known read (c .before .before .skip2 .ensures) (c .enum-told3 .given .1))
-
-with-word-requires : tie.Need-with-word-requires Inv-loop μ-loop
-with-word-requires c κs = omega (arith, c .before .before .before .before .before .before .before .before .before .before .before .before .before .before .before .before .before .before .before .before .before .before .before .loop .inv .1, (c .before .before .before .before .before .before .before .before .before .before .before .before .before .before .before .before .before .before .before .before .before .before .before .loop .inv .0 .way) .room .short, c .before .before .before .before .before .before .before .before .before .before .before .before .before .before .before .before .before .before .before .before .before .before .loop-test .taken)
-
-sub-turns : tie.Need-sub-turns Inv-loop μ-loop
-sub-turns c = omega (arith, c .before .before .before .before .before .before .before .before .before .before .before .before .before .before .before .before .before .before .before .before .before .before .before .loop-test .taken)
-
-loop-less : tie.Need-loop-less Inv-loop μ-loop
-loop-less c = omega (arith, c .before .before .before .before .before .before .before .before .before .before .before .before .before .before .before .before .before .before .before .before .before .before .before .loop-test .taken)
-
-loop-again : tie.Need-loop-again Inv-loop μ-loop
-unfolding rule.segment-words rule.segment-words-from rule.segment-word perhaps
-loop-again c = (record { way = (at-behind (c .before .before)); left = ap (λ n. rule.segment-words-from (expression (c .before .before .before .before .before .before .before .before .before .before .before .before .before .before .before .before .before .before .before .before .before .before .before .before .before .before .before .args .mode) (c .before .before .before .before .before .before .before .before .before .before .before .before .before .before .before .before .before .before .before .before .before .before .before .before .before .before .before .args .left)) (c .before .before .before .before .before .before .before .before .before .before .before .before .before .before .before .before .before .before .before .before .before .before .before .before .loop .turns - 1) n) (sym (c .with-word .ensures)) }, flags-less (c .before .before .before .before .before .before .before .before .before .before .before .before .before .before .before .before .before .before .before .before .before .before .before .before .loop .so-far) _ _ (c .with-word .ensures) (c .before .before .before .before .before .before .before .before .before .before .before .before .before .before .before .before .before .before .before .before .before .before .before .before .loop .inv .1) (c .before .before .before .before .before .before .before .before .before .before .before .before .before .before .before .before .before .before .before .before .before .before .before .loop-test .taken))
-
-same-length-5 : tie.Need-same-length-5 Inv-loop μ-loop
-same-length-5 c = (c .before .loop .inv .0 .way) .size
-
-returns-5 : tie.Need-returns-5 Inv-loop μ-loop
-unfolding rule.segment-words rule.segment-words-from rule.segment-word perhaps
-returns-5 c = spent (c .before .loop .inv .0 .way) (λ n. rule.segment-words-from (expression (c .before .before .before .before .args .mode) (c .before .before .before .before .args .left)) n (c .before .loop .so-far)) (c .before .loop .inv .0 .left) (c .loop-test .left) (as-lost refused)
-
 pub segment-words-spec : {M : Type 1} → statement M
+unfolding rule.segment-words rule.segment-words-from rule.segment-word perhaps
 segment-words-spec =
     tie.close
     (tie.spec
     Inv-loop
     μ-loop
     (λ c. search needs)
-    loop-holds
+    (λ c. (record { way = bytes _ (enter (segment-words-pays (expression-pays (c .before .before .args .mode) (c .before .before .args .left))) (c .before .before .pre)) refl sized; left = ap (λ n. rule.segment-words-from (expression (c .before .before .args .mode) (c .before .before .args .left)) n (segment-of false false 0)) (sym (add-one (length (c .before .before .args .script .now)))) }, omega arith))
     (λ c. search needs)
     (λ c. search needs)
     (λ c. search needs)
     (λ c κs. search needs)
     (λ c. search needs)
     (λ c. search needs)
-    same-length
-    returns
+    (λ c. (at-enum-told c) .size)
+    (λ c. ends-here (at-enum-told c) (as-bytes (given _)))
     (λ c κs. search needs)
     (λ c. search needs)
     (λ c. search needs)
-    same-length-2
-    returns-2
-    flag-clause-requires
+    (λ c. (at-found (c .before .before .before .before)) .size)
+    (λ c. lost-here _ (at-found (c .before .before .before .before)) refl (known read (c .before .before .skip .ensures) (c .enum-told2 .given .1)))
+    (λ c κs. ((at-before2 (c .before .before)) .room, omega (arith, (at-before2 (c .before .before)) .spare)))
     (λ c. search needs)
     (λ c κs. search needs)
-    same-length-3
-    returns-3
+    (λ c. c .before .before .before .before .flag-clause .kept .1 .0 ∙ (at-before2 (c .before .before .before .before .before .before .before)) .size)
+    (λ c. halts _ (at-before2 (c .before .before .before .before .before .before .before)) refl (not-stepped (c .before .before .before .before .flag-clause .result) (c .before .match3 .keys2)) (c .before .before .before .before .flag-clause .ensures) _ (c .with-words .ensures))
     (λ c κs. search needs)
     (λ c. search needs)
     (λ c. search needs)
-    same-length-4
-    returns-4
-    with-word-requires
-    sub-turns
-    loop-less
-    loop-again
-    same-length-5
-    returns-5)
+    (λ c. (at-flag (c .before .before .before .before)) .size)
+    (λ c. lost-here _ (at-flag (c .before .before .before .before)) refl (known read (c .before .before .skip2 .ensures) (c .enum-told3 .given .1)))
+    (λ c κs. omega (arith, c .before .before .before .before .before .before .before .before .before .before .before .before .before .before .before .before .before .before .before .before .before .before .before .loop .inv .1, (c .before .before .before .before .before .before .before .before .before .before .before .before .before .before .before .before .before .before .before .before .before .before .before .loop .inv .0 .way) .room .short, c .before .before .before .before .before .before .before .before .before .before .before .before .before .before .before .before .before .before .before .before .before .before .loop-test .taken))
+    (λ c. omega (arith, c .before .before .before .before .before .before .before .before .before .before .before .before .before .before .before .before .before .before .before .before .before .before .before .loop-test .taken))
+    (λ c. omega (arith, c .before .before .before .before .before .before .before .before .before .before .before .before .before .before .before .before .before .before .before .before .before .before .before .loop-test .taken))
+    (λ c. (record { way = (at-behind (c .before .before)); left = ap (λ n. rule.segment-words-from (expression (c .before .before .before .before .before .before .before .before .before .before .before .before .before .before .before .before .before .before .before .before .before .before .before .before .before .before .before .args .mode) (c .before .before .before .before .before .before .before .before .before .before .before .before .before .before .before .before .before .before .before .before .before .before .before .before .before .before .before .args .left)) (c .before .before .before .before .before .before .before .before .before .before .before .before .before .before .before .before .before .before .before .before .before .before .before .before .loop .turns - 1) n) (sym (c .with-word .ensures)) }, flags-less (c .before .before .before .before .before .before .before .before .before .before .before .before .before .before .before .before .before .before .before .before .before .before .before .before .loop .so-far) _ _ (c .with-word .ensures) (c .before .before .before .before .before .before .before .before .before .before .before .before .before .before .before .before .before .before .before .before .before .before .before .before .loop .inv .1) (c .before .before .before .before .before .before .before .before .before .before .before .before .before .before .before .before .before .before .before .before .before .before .before .loop-test .taken)))
+    (λ c. (c .before .loop .inv .0 .way) .size)
+    (λ c. spent (c .before .loop .inv .0 .way) (λ n. rule.segment-words-from (expression (c .before .before .before .before .args .mode) (c .before .before .before .before .args .left)) n (c .before .loop .so-far)) (c .before .loop .inv .0 .left) (c .loop-test .left) (as-lost refused)))

@@ -8,23 +8,12 @@ use borrow.Author.Needs.{needs}
 use Rattle.segments.proofs.with_word.Statement.{statement}
 use Rattle.segments.proofs.with_word.Tie as tie
 
-returns : tie.Need-returns
-unfolding rule.with-word
-returns c = rw (c .before .match .keys1) (ap (λ n. segment-of (c .before .before .args .so-far .filehdr) (c .before .before .args .so-far .phdrs) n) (add-one (c .before .before .args .so-far .flags)))
-
-returns-2 : tie.Need-returns-2
-unfolding rule.with-word
-returns-2 c = rw (c .match .keys2)
-
-returns-3 : tie.Need-returns-3
-unfolding rule.with-word
-returns-3 c = rw (ne-eqb _ 0 (c .match .rest .0 .1), ne-eqb _ 1 (c .match .rest .1))
-
 pub with-word-spec : {M : Type 1} → statement M
+unfolding rule.with-word
 with-word-spec =
     tie.close
     (tie.spec
     (λ c. search needs)
-    returns
-    returns-2
-    returns-3)
+    (λ c. rw (c .before .match .keys1) (ap (λ n. segment-of (c .before .before .args .so-far .filehdr) (c .before .before .args .so-far .phdrs) n) (add-one (c .before .before .args .so-far .flags))))
+    (λ c. rw (c .match .keys2))
+    (λ c. rw (ne-eqb _ 0 (c .match .rest .0 .1), ne-eqb _ 1 (c .match .rest .1))))

@@ -6,9 +6,6 @@ use borrow.Author.Needs.{needs}
 use Rattle.segments.proofs.with_words.Statement.{statement}
 use Rattle.segments.proofs.with_words.Tie as tie
 
-returns : tie.Need-returns
-returns c = sym (ap (λ r. valued (c .before .before .before .args .words) (stepped r)) (c .before .step .given .1))
-
 pub with-words-spec : {M : Type 1} → statement M
 with-words-spec =
     tie.close
@@ -16,6 +13,6 @@ with-words-spec =
     (λ c. search needs)
     (λ c. search needs)
     (λ c. search needs)
-    returns
+    (λ c. sym (ap (λ r. valued (c .before .before .before .args .words) (stepped r)) (c .before .step .given .1)))
     (λ c. search needs)
     (λ c. search needs))

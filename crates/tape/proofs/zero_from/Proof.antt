@@ -17,38 +17,17 @@ Inv-loop tape₀ from i₀ tape i =
 abbrev μ-loop : tie.MeasureT-loop
 μ-loop tape₀ from i₀ tape i = length tape - i
 
-loop-holds : tie.Need-loop-holds Inv-loop μ-loop
-loop-holds c = (rw (sub-self (c .args .from)) (sym (append-nil _)), omega arith, omega arith, refl)
-
-loop-less : tie.Need-loop-less Inv-loop μ-loop
-loop-less c = simp length-set (omega arith)
-
-loop-again : tie.Need-loop-again Inv-loop μ-loop
-loop-again c =
-    let loop = c .before .loop in
-    (zeroed _ _ _ _ (loop .inv .1) (c .loop-test .taken) (loop .inv .0), omega arith, simp length-set (omega arith), simp length-set (loop .inv .3))
-
-same-length : tie.Need-same-length Inv-loop μ-loop
-same-length c = c .before .loop .inv .3
-
-returns : tie.Need-returns Inv-loop μ-loop
-returns c =
-    let loop = c .before .loop in
-    let start = c .before .before in
-    let n : loop .i - start .args .from ≡ length (start .args .tape .now) - start .args .from = omega arith in
-    take-whole _ _ (c .loop-test .left) ∙ loop .inv .0 ∙ ap (λ k. take (start .args .from) (start .args .tape .now) ++ replicate k 0) n
-
 pub zero-from-spec : {M : Type 1} → statement M
 zero-from-spec =
     tie.close
     (tie.spec
     Inv-loop
     μ-loop
-    loop-holds
+    (λ c. (rw (sub-self (c .args .from)) (sym (append-nil _)), omega arith, omega arith, refl))
     (λ c. search needs)
     (λ c. search needs)
     (λ c. search needs)
-    loop-less
-    loop-again
-    same-length
-    returns)
+    (λ c. simp length-set (omega arith))
+    (λ c. let loop = c .before .loop in (zeroed _ _ _ _ (loop .inv .1) (c .loop-test .taken) (loop .inv .0), omega arith, simp length-set (omega arith), simp length-set (loop .inv .3)))
+    (λ c. c .before .loop .inv .3)
+    (λ c. let loop = c .before .loop in let start = c .before .before in let n : loop .i - start .args .from ≡ length (start .args .tape .now) - start .args .from = omega arith in take-whole _ _ (c .loop-test .left) ∙ loop .inv .0 ∙ ap (λ k. take (start .args .from) (start .args .tape .now) ++ replicate k 0) n))

@@ -29,29 +29,8 @@ abbrev at-closed : (c : tie.After-closed) → Along (c .before .before .before .
 unfolding rule.entry
 at-closed c = bytes _ (at-name (c .before .before .before .before .before)) refl (known read (c .before .before .skip-word .ensures) (c .closed .given .1))
 
-returns : tie.Need-returns
-unfolding rule.entry
-returns c = lost-here _ (enter (entry-pays) (c .before .before .before .before .before .before .pre)) refl (known read (c .before .before .skip-word-skip .ensures) (c .enum-told .given .1))
-
-returns-2 : tie.Need-returns-2
-unfolding rule.entry
-returns-2 c = lost-here _ (at-opened (c .before .before .before .before)) refl (known taken (c .before .before .token .ensures) (c .enum-told2 .given .1))
-
-returns-3 : tie.Need-returns-3
-unfolding rule.entry
-returns-3 c = lost-here _ (at-name (c .before .before .before .before .before)) refl (known read (c .before .before .skip-word .ensures) (c .enum-told3 .given .1))
-
-push-requires : tie.Need-push-requires
-push-requires c κs = can-push (at-closed (c .before .before))
-
-same-length : tie.Need-same-length
-same-length c = c .before .before .push .kept .0 ∙ (at-closed (c .before .before .before .before .before)) .size
-
-returns-4 : tie.Need-returns-4
-unfolding rule.entry
-returns-4 c = ends-here (at-closed (c .before .before .before .before .before)) (added _ _ _ _ _ (c .before .before .push .ensures) (can-push (at-closed (c .before .before .before .before .before))))
-
 pub entry-spec : {M : Type 1} → statement M
+unfolding rule.entry
 entry-spec =
     tie.close
     (tie.spec
@@ -59,16 +38,16 @@ entry-spec =
     (λ c κs. search needs)
     (λ c. search needs)
     (λ c. search needs)
-    returns
+    (λ c. lost-here _ (enter (entry-pays) (c .before .before .before .before .before .before .pre)) refl (known read (c .before .before .skip-word-skip .ensures) (c .enum-told .given .1)))
     (λ c κs. search needs)
     (λ c. search needs)
     (λ c. search needs)
-    returns-2
+    (λ c. lost-here _ (at-opened (c .before .before .before .before)) refl (known taken (c .before .before .token .ensures) (c .enum-told2 .given .1)))
     (λ c. search needs)
     (λ c κs. search needs)
     (λ c. search needs)
     (λ c. search needs)
-    returns-3
-    push-requires
-    same-length
-    returns-4)
+    (λ c. lost-here _ (at-name (c .before .before .before .before .before)) refl (known read (c .before .before .skip-word .ensures) (c .enum-told3 .given .1)))
+    (λ c κs. can-push (at-closed (c .before .before)))
+    (λ c. c .before .before .push .kept .0 ∙ (at-closed (c .before .before .before .before .before)) .size)
+    (λ c. ends-here (at-closed (c .before .before .before .before .before)) (added _ _ _ _ _ (c .before .before .push .ensures) (can-push (at-closed (c .before .before .before .before .before))))))

@@ -21,28 +21,15 @@ abbrev at-name : (c : tie.After-name) → Along (c .before .before .before .befo
 unfolding rule.format
 at-name c = earning _ token-pays (enter (format-pays) (c .before .before .before .before .before .pre)) refl (known taken (c .before .before .token .ensures) (c .name .given .1))
 
-returns : tie.Need-returns
-unfolding rule.format
-returns c = lost-here _ (enter (format-pays) (c .before .before .before .before .before .pre)) refl (known taken (c .before .before .token .ensures) (c .enum-told .given .1))
-
-push-requires : tie.Need-push-requires
-push-requires c κs = can-push (at-name (c .before .before))
-
-same-length : tie.Need-same-length
-same-length c = c .before .before .push .kept .0 ∙ (at-name (c .before .before .before .before .before)) .size
-
-returns-2 : tie.Need-returns-2
-unfolding rule.format
-returns-2 c = ends-here (at-name (c .before .before .before .before .before)) (added _ _ _ _ _ (c .before .before .push .ensures) (can-push (at-name (c .before .before .before .before .before))))
-
 pub format-spec : {M : Type 1} → statement M
+unfolding rule.format
 format-spec =
     tie.close
     (tie.spec
     (λ c κs. search needs)
     (λ c. search needs)
     (λ c. search needs)
-    returns
-    push-requires
-    same-length
-    returns-2)
+    (λ c. lost-here _ (enter (format-pays) (c .before .before .before .before .before .pre)) refl (known taken (c .before .before .token .ensures) (c .enum-told .given .1)))
+    (λ c κs. can-push (at-name (c .before .before)))
+    (λ c. c .before .before .push .kept .0 ∙ (at-name (c .before .before .before .before .before)) .size)
+    (λ c. ends-here (at-name (c .before .before .before .before .before)) (added _ _ _ _ _ (c .before .before .push .ensures) (can-push (at-name (c .before .before .before .before .before))))))

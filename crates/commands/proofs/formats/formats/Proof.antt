@@ -46,56 +46,8 @@ abbrev at-behind : (c : tie.After-behind) → Along (c .before .before .before .
 unfolding rule.formats if_then_else_
 at-behind c = bytes _ (at-little (c .before .before .before .before)) refl (known read (c .before .before .skip2 .ensures) (c .behind .given .1))
 
-returns : tie.Need-returns
-unfolding rule.formats if_then_else_
-returns c = ends-here (at-enum-told c) (as-bytes (given _))
-
-returns-2 : tie.Need-returns-2
-unfolding rule.formats if_then_else_
-returns-2 c = lost-here _ (at-several (c .before .before .before .before)) refl (known read (c .before .before .skip .ensures) (c .enum-told2 .given .1))
-
-format-requires : tie.Need-format-requires
-format-requires c κs = (at-before2 (c .before .before)) .room
-
-same-length : tie.Need-same-length
-same-length c = c .before .before .before .before .format .kept .1 .0 ∙ (at-before2 (c .before .before .before .before .before .before .before)) .size
-
-returns-3 : tie.Need-returns-3
-unfolding rule.formats if_then_else_
-returns-3 c = halts _ (at-before2 (c .before .before .before .before .before .before .before)) refl (not-stepped (c .before .before .before .before .format .result) (c .before .match3 .keys2)) (runs (c .before .before .before .before .format .ensures)) _ (c .counted .ensures)
-
-same-length-2 : tie.Need-same-length-2
-same-length-2 c = (at-big (c .before .before .before .before .before)) .size
-
-returns-4 : tie.Need-returns-4
-unfolding rule.formats if_then_else_
-returns-4 c = lost-here _ (at-big (c .before .before .before .before .before)) refl (known read (c .before .before .skip-word-skip .ensures) (c .enum-told3 .given .1))
-
-format-requires-2 : tie.Need-format-requires-2
-format-requires-2 c κs = (at-comma (c .before .before)) .room
-
-same-length-3 : tie.Need-same-length-3
-same-length-3 c = c .before .before .before .before .format2 .kept .1 .0 ∙ (at-comma (c .before .before .before .before .before .before .before)) .size
-
-returns-5 : tie.Need-returns-5
-unfolding rule.formats if_then_else_
-returns-5 c = halts _ (at-comma (c .before .before .before .before .before .before .before)) refl (not-stepped (c .before .before .before .before .format2 .result) (c .before .match5 .keys2)) (runs (c .before .before .before .before .format2 .ensures)) _ (c .counted2 .ensures)
-
-same-length-4 : tie.Need-same-length-4
-same-length-4 c = (at-little (c .before .before .before .before)) .size
-
-returns-6 : tie.Need-returns-6
-unfolding rule.formats if_then_else_
-returns-6 c = lost-here _ (at-little (c .before .before .before .before)) refl (known read (c .before .before .skip2 .ensures) (c .enum-told4 .given .1))
-
-same-length-5 : tie.Need-same-length-5
-same-length-5 c = (at-behind (c .before)) .size
-
-returns-7 : tie.Need-returns-7
-unfolding rule.formats if_then_else_
-returns-7 c = ends-here (at-behind (c .before)) (as-bytes (given _))
-
 pub formats-spec : {M : Type 1} → statement M
+unfolding rule.formats if_then_else_
 formats-spec =
     tie.close
     (tie.spec
@@ -103,31 +55,31 @@ formats-spec =
     (λ c κs. search needs)
     (λ c. search needs)
     (λ c. search needs)
-    returns
+    (λ c. ends-here (at-enum-told c) (as-bytes (given _)))
     (λ c κs. search needs)
     (λ c. search needs)
     (λ c. search needs)
-    returns-2
-    format-requires
+    (λ c. lost-here _ (at-several (c .before .before .before .before)) refl (known read (c .before .before .skip .ensures) (c .enum-told2 .given .1)))
+    (λ c κs. (at-before2 (c .before .before)) .room)
     (λ c. search needs)
     (λ c κs. search needs)
-    same-length
-    returns-3
+    (λ c. c .before .before .before .before .format .kept .1 .0 ∙ (at-before2 (c .before .before .before .before .before .before .before)) .size)
+    (λ c. halts _ (at-before2 (c .before .before .before .before .before .before .before)) refl (not-stepped (c .before .before .before .before .format .result) (c .before .match3 .keys2)) (runs (c .before .before .before .before .format .ensures)) _ (c .counted .ensures))
     (λ c. search needs)
-    (λ c κs. search needs)
-    (λ c. search needs)
-    (λ c. search needs)
-    same-length-2
-    returns-4
-    format-requires-2
-    (λ c. search needs)
-    (λ c κs. search needs)
-    same-length-3
-    returns-5
     (λ c κs. search needs)
     (λ c. search needs)
     (λ c. search needs)
-    same-length-4
-    returns-6
-    same-length-5
-    returns-7)
+    (λ c. (at-big (c .before .before .before .before .before)) .size)
+    (λ c. lost-here _ (at-big (c .before .before .before .before .before)) refl (known read (c .before .before .skip-word-skip .ensures) (c .enum-told3 .given .1)))
+    (λ c κs. (at-comma (c .before .before)) .room)
+    (λ c. search needs)
+    (λ c κs. search needs)
+    (λ c. c .before .before .before .before .format2 .kept .1 .0 ∙ (at-comma (c .before .before .before .before .before .before .before)) .size)
+    (λ c. halts _ (at-comma (c .before .before .before .before .before .before .before)) refl (not-stepped (c .before .before .before .before .format2 .result) (c .before .match5 .keys2)) (runs (c .before .before .before .before .format2 .ensures)) _ (c .counted2 .ensures))
+    (λ c κs. search needs)
+    (λ c. search needs)
+    (λ c. search needs)
+    (λ c. (at-little (c .before .before .before .before)) .size)
+    (λ c. lost-here _ (at-little (c .before .before .before .before)) refl (known read (c .before .before .skip2 .ensures) (c .enum-told4 .given .1)))
+    (λ c. (at-behind (c .before)) .size)
+    (λ c. ends-here (at-behind (c .before)) (as-bytes (given _))))

@@ -8,27 +8,13 @@ use borrow.Author.Needs.{needs}
 use Rattle.commands.proofs.formats.open_after.Statement.{statement}
 use Rattle.commands.proofs.formats.open_after.Tie as tie
 
-returns : tie.Need-returns
-unfolding rule.open-after
-returns c = rw (c .if1 .taken) (add-one (c .before .args .depth))
-
-sub-result : tie.Need-sub-result
-sub-result c = opened _ _ (c .before .before .pre .1) (c .if2 .taken)
-
-returns-2 : tie.Need-returns-2
-unfolding rule.open-after
-returns-2 c = rw (c .if2 .taken)
-
-returns-3 : tie.Need-returns-3
-unfolding rule.open-after
-returns-3 c = rw (ne-eqb _ 123 (c .before .if1 .left), ne-eqb _ 125 (c .if2 .left))
-
 pub open-after-spec : {M : Type 1} → statement M
+unfolding rule.open-after
 open-after-spec =
     tie.close
     (tie.spec
     (λ c. search needs)
-    returns
-    sub-result
-    returns-2
-    returns-3)
+    (λ c. rw (c .if1 .taken) (add-one (c .before .args .depth)))
+    (λ c. opened _ _ (c .before .before .pre .1) (c .if2 .taken))
+    (λ c. rw (c .if2 .taken))
+    (λ c. rw (ne-eqb _ 123 (c .before .if1 .left), ne-eqb _ 125 (c .if2 .left))))

@@ -39,46 +39,8 @@ abbrev at-closed : (c : tie.After-closed) → Along (c .before .before .before .
 unfolding rule.output-format
 at-closed c = bytes _ (at-others (c .before .before .before .before .before)) refl (known read (c .before .before .word .ensures) (c .closed .given .1))
 
-returns : tie.Need-returns
-unfolding rule.output-format
-returns c = lost-here _ (enter (output-format-pays) (c .before .before .before .before .before .before .pre)) refl (known read (c .before .before .word-skip .ensures) (c .enum-told .given .1))
-
-returns-2 : tie.Need-returns-2
-unfolding rule.output-format
-returns-2 c = lost-here _ (at-opened (c .before .before .before .before)) refl (known taken (c .before .before .token .ensures) (c .enum-told2 .given .1))
-
-returns-3 : tie.Need-returns-3
-unfolding rule.output-format
-returns-3 c = lost-here _ (at-name (c .before .before .before .before)) refl (known read (c .before .before .skip .ensures) (c .enum-told3 .given .1))
-
-formats-requires : tie.Need-formats-requires
-formats-requires c κs = (at-skipped (c .before .before)) .room
-
-same-length : tie.Need-same-length
-same-length c = c .before .before .before .before .formats .kept .1 .0 ∙ (at-skipped (c .before .before .before .before .before .before .before)) .size
-
-returns-4 : tie.Need-returns-4
-unfolding rule.output-format
-returns-4 c = halts _ (at-skipped (c .before .before .before .before .before .before .before)) refl (not-counted (c .before .before .before .before .formats .result) (c .before .match4 .keys2)) (runs (c .before .before .before .before .formats .ensures)) _ (c .step .ensures)
-
-same-length-2 : tie.Need-same-length-2
-same-length-2 c = (at-others (c .before .before .before .before .before)) .size
-
-returns-5 : tie.Need-returns-5
-unfolding rule.output-format
-returns-5 c = lost-here _ (at-others (c .before .before .before .before .before)) refl (known read (c .before .before .word .ensures) (c .enum-told4 .given .1))
-
-push-requires : tie.Need-push-requires
-push-requires c κs = can-push (at-closed (c .before .before))
-
-same-length-3 : tie.Need-same-length-3
-same-length-3 c = c .before .before .push .kept .0 ∙ (at-closed (c .before .before .before .before .before)) .size
-
-returns-6 : tie.Need-returns-6
-unfolding rule.output-format
-returns-6 c = ends-here (at-closed (c .before .before .before .before .before)) (added _ _ _ _ _ (c .before .before .push .ensures) (can-push (at-closed (c .before .before .before .before .before))))
-
 pub output-format-spec : {M : Type 1} → statement M
+unfolding rule.output-format
 output-format-spec =
     tie.close
     (tie.spec
@@ -86,26 +48,26 @@ output-format-spec =
     (λ c κs. search needs)
     (λ c. search needs)
     (λ c. search needs)
-    returns
+    (λ c. lost-here _ (enter (output-format-pays) (c .before .before .before .before .before .before .pre)) refl (known read (c .before .before .word-skip .ensures) (c .enum-told .given .1)))
     (λ c κs. search needs)
     (λ c. search needs)
     (λ c. search needs)
-    returns-2
+    (λ c. lost-here _ (at-opened (c .before .before .before .before)) refl (known taken (c .before .before .token .ensures) (c .enum-told2 .given .1)))
     (λ c κs. search needs)
     (λ c. search needs)
     (λ c. search needs)
-    returns-3
-    formats-requires
+    (λ c. lost-here _ (at-name (c .before .before .before .before)) refl (known read (c .before .before .skip .ensures) (c .enum-told3 .given .1)))
+    (λ c κs. (at-skipped (c .before .before)) .room)
     (λ c. search needs)
     (λ c κs. search needs)
-    same-length
-    returns-4
+    (λ c. c .before .before .before .before .formats .kept .1 .0 ∙ (at-skipped (c .before .before .before .before .before .before .before)) .size)
+    (λ c. halts _ (at-skipped (c .before .before .before .before .before .before .before)) refl (not-counted (c .before .before .before .before .formats .result) (c .before .match4 .keys2)) (runs (c .before .before .before .before .formats .ensures)) _ (c .step .ensures))
     (λ c. search needs)
     (λ c κs. search needs)
     (λ c. search needs)
     (λ c. search needs)
-    same-length-2
-    returns-5
-    push-requires
-    same-length-3
-    returns-6)
+    (λ c. (at-others (c .before .before .before .before .before)) .size)
+    (λ c. lost-here _ (at-others (c .before .before .before .before .before)) refl (known read (c .before .before .word .ensures) (c .enum-told4 .given .1)))
+    (λ c κs. can-push (at-closed (c .before .before)))
+    (λ c. c .before .before .push .kept .0 ∙ (at-closed (c .before .before .before .before .before)) .size)
+    (λ c. ends-here (at-closed (c .before .before .before .before .before)) (added _ _ _ _ _ (c .before .before .push .ensures) (can-push (at-closed (c .before .before .before .before .before))))))

@@ -32,29 +32,8 @@ abbrev at-opt-word : (c : tie.After-opt-word) → Along (c .before .before .befo
 unfolding rule.version
 at-opt-word c = bytes _ (at-skipped (c .before .before .before)) refl (c .opt-word .ensures)
 
-returns : tie.Need-returns
-unfolding rule.version
-returns c = lost-here _ (enter (version-pays) (c .before .before .before .before .before .before .pre)) refl (known read (c .before .before .skip-word-skip .ensures) (c .enum-told .given .1))
-
-returns-2 : tie.Need-returns-2
-unfolding rule.version
-returns-2 c = lost-here _ (at-opened (c .before .before .before .before)) refl (known taken (c .before .before .body .ensures) (c .enum-told2 .given .1))
-
-returns-3 : tie.Need-returns-3
-unfolding rule.version
-returns-3 c = lost-here _ (at-content (c .before .before .before .before)) refl (known read (c .before .before .skip .ensures) (c .enum-told3 .given .1))
-
-push-requires : tie.Need-push-requires
-push-requires c κs = can-push (at-opt-word (c .before))
-
-same-length : tie.Need-same-length
-same-length c = c .before .before .push .kept .0 ∙ (at-opt-word (c .before .before .before .before)) .size
-
-returns-4 : tie.Need-returns-4
-unfolding rule.version
-returns-4 c = ends-here (at-opt-word (c .before .before .before .before)) (added _ _ _ _ _ (c .before .before .push .ensures) (can-push (at-opt-word (c .before .before .before .before))))
-
 pub version-spec : {M : Type 1} → statement M
+unfolding rule.version
 version-spec =
     tie.close
     (tie.spec
@@ -62,17 +41,17 @@ version-spec =
     (λ c κs. search needs)
     (λ c. search needs)
     (λ c. search needs)
-    returns
+    (λ c. lost-here _ (enter (version-pays) (c .before .before .before .before .before .before .pre)) refl (known read (c .before .before .skip-word-skip .ensures) (c .enum-told .given .1)))
     (λ c κs. search needs)
     (λ c. search needs)
     (λ c. search needs)
-    returns-2
+    (λ c. lost-here _ (at-opened (c .before .before .before .before)) refl (known taken (c .before .before .body .ensures) (c .enum-told2 .given .1)))
     (λ c κs. search needs)
     (λ c. search needs)
     (λ c. search needs)
-    returns-3
+    (λ c. lost-here _ (at-content (c .before .before .before .before)) refl (known read (c .before .before .skip .ensures) (c .enum-told3 .given .1)))
     (λ c. search needs)
     (λ c κs. search needs)
-    push-requires
-    same-length
-    returns-4)
+    (λ c κs. can-push (at-opt-word (c .before)))
+    (λ c. c .before .before .push .kept .0 ∙ (at-opt-word (c .before .before .before .before)) .size)
+    (λ c. ends-here (at-opt-word (c .before .before .before .before)) (added _ _ _ _ _ (c .before .before .push .ensures) (can-push (at-opt-word (c .before .before .before .before))))))

@@ -5,8 +5,5 @@ use Rattle.held.specs.Step.{then-step}
 use Rattle.held.proofs.Skipped.before.Statement.{statement}
 use Rattle.held.proofs.Skipped.before.Tie as tie
 
-returns-2 : tie.Need-returns-2
-returns-2 c = sym (ap (λ x. then-step x (c .before .before .before .args .next)) (c .before .self .given .1))
-
 pub before-spec : {M : Type 1} → statement M
-before-spec = tie.close (tie.spec (λ c. search needs) (λ c. search needs) (λ c. search needs) returns-2)
+before-spec = tie.close (tie.spec (λ c. search needs) (λ c. search needs) (λ c. search needs) (λ c. sym (ap (λ x. then-step x (c .before .before .before .args .next)) (c .before .self .given .1))))

@@ -15,21 +15,6 @@ room c =
     let x = known read (c .before .before .word .ensures) (c .ended .given .1) in
     space (start .pre) (x .moved) (earned bracket-pays x)
 
-returns : tie.Need-returns
-returns c =
-    let start = c .before .before .before .before .before .before in
-    met (finished-pays _ _ _ _ _) (start .pre) (bytes-stop _ (known read (c .before .before .word .ensures) (c .enum-told .given .1)))
-
-push-requires : tie.Need-push-requires
-push-requires c κs = room (c .before .before)
-
-returns-2 : tie.Need-returns-2
-returns-2 c =
-    let start = c .before .before .before .before .before .before .before .before .before .before .before in
-    let word = c .before .before .before .before .before .before .before .word in
-    let ended = c .before .before .before .before .before .ended in
-    met (finished-pays _ _ _ _ _) (start .pre) (bytes-then _ (known read (word .ensures) (ended .given .1)) (added _ _ _ _ _ (c .before .before .push .ensures) (room (c .before .before .before .before .before))))
-
 pub finish-spec : {M : Type 1} → statement M
 finish-spec =
     tie.close
@@ -38,7 +23,7 @@ finish-spec =
     (λ c κs. search needs)
     (λ c. search needs)
     (λ c. search needs)
-    returns
-    push-requires
+    (λ c. let start = c .before .before .before .before .before .before in met (finished-pays _ _ _ _ _) (start .pre) (bytes-stop _ (known read (c .before .before .word .ensures) (c .enum-told .given .1))))
+    (λ c κs. room (c .before .before))
     (λ c. search needs)
-    returns-2)
+    (λ c. let start = c .before .before .before .before .before .before .before .before .before .before .before in let word = c .before .before .before .before .before .before .before .word in let ended = c .before .before .before .before .before .ended in met (finished-pays _ _ _ _ _) (start .pre) (bytes-then _ (known read (word .ensures) (ended .given .1)) (added _ _ _ _ _ (c .before .before .push .ensures) (room (c .before .before .before .before .before))))))

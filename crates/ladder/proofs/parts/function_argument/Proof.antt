@@ -32,23 +32,8 @@ abbrev at-closed : (c : tie.After-closed) → Along (c .before .before .before .
 unfolding function-arg
 at-closed c = past (at-skip-blanks2 (c .before .before .before .before)) _ refl (known read (c .before .before .word2 .ensures) (c .closed .given .1))
 
-returns : tie.Need-returns
-unfolding function-arg
-returns c = missed set-out _ refl (known read (c .before .before .word .ensures) (c .enum-told .given .1))
-
-returns-2 : tie.Need-returns-2
-unfolding function-arg
-returns-2 c = missed (at-skip-blanks (c .before .before .before)) _ refl (known taken (c .before .before .identifier .ensures) (c .enum-told2 .given .1))
-
-returns-3 : tie.Need-returns-3
-unfolding function-arg
-returns-3 c = missed (at-skip-blanks2 (c .before .before .before .before)) _ refl (known read (c .before .before .word2 .ensures) (c .enum-told3 .given .1))
-
-returns-4 : tie.Need-returns-4
-unfolding function-arg
-returns-4 c = arrived (at-closed (c .before)) (given _)
-
 pub function-argument-spec : {M : Type 1} → statement M
+unfolding function-arg
 function-argument-spec =
     tie.close
     (tie.spec
@@ -56,16 +41,16 @@ function-argument-spec =
     (λ c κs. search needs)
     (λ c. search needs)
     (λ c. search needs)
-    returns
+    (λ c. missed set-out _ refl (known read (c .before .before .word .ensures) (c .enum-told .given .1)))
     (λ c κs. search needs)
     (λ c κs. search needs)
     (λ c. search needs)
     (λ c. search needs)
-    returns-2
+    (λ c. missed (at-skip-blanks (c .before .before .before)) _ refl (known taken (c .before .before .identifier .ensures) (c .enum-told2 .given .1)))
     (λ c κs. search needs)
     (λ c. search needs)
     (λ c κs. search needs)
     (λ c. search needs)
     (λ c. search needs)
-    returns-3
-    returns-4)
+    (λ c. missed (at-skip-blanks2 (c .before .before .before .before)) _ refl (known read (c .before .before .word2 .ensures) (c .enum-told3 .given .1)))
+    (λ c. arrived (at-closed (c .before)) (given _)))

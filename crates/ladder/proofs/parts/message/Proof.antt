@@ -24,23 +24,8 @@ abbrev at-closed : (c : tie.After-closed) → Along (c .before .before .before .
 unfolding assert-message
 at-closed c = past (at-text (c .before .before .before .before .before)) _ refl (known read (c .before .before .skip-word-skip2 .ensures) (c .closed .given .1))
 
-returns : tie.Need-returns
-unfolding assert-message
-returns c = missed set-out _ refl (known read (c .before .before .skip-word-skip .ensures) (c .enum-told .given .1))
-
-returns-2 : tie.Need-returns-2
-unfolding assert-message
-returns-2 c = missed (at-comma (c .before .before .before .before)) _ refl (known taken (c .before .before .token .ensures) (c .enum-told2 .given .1))
-
-returns-3 : tie.Need-returns-3
-unfolding assert-message
-returns-3 c = missed (at-text (c .before .before .before .before .before)) _ refl (known read (c .before .before .skip-word-skip2 .ensures) (c .enum-told3 .given .1))
-
-returns-4 : tie.Need-returns-4
-unfolding assert-message
-returns-4 c = arrived (at-closed (c .before)) (given _)
-
 pub message-spec : {M : Type 1} → statement M
+unfolding assert-message
 message-spec =
     tie.close
     (tie.spec
@@ -48,14 +33,14 @@ message-spec =
     (λ c κs. search needs)
     (λ c. search needs)
     (λ c. search needs)
-    returns
+    (λ c. missed set-out _ refl (known read (c .before .before .skip-word-skip .ensures) (c .enum-told .given .1)))
     (λ c κs. search needs)
     (λ c. search needs)
     (λ c. search needs)
-    returns-2
+    (λ c. missed (at-comma (c .before .before .before .before)) _ refl (known taken (c .before .before .token .ensures) (c .enum-told2 .given .1)))
     (λ c. search needs)
     (λ c κs. search needs)
     (λ c. search needs)
     (λ c. search needs)
-    returns-3
-    returns-4)
+    (λ c. missed (at-text (c .before .before .before .before .before)) _ refl (known read (c .before .before .skip-word-skip2 .ensures) (c .enum-told3 .given .1)))
+    (λ c. arrived (at-closed (c .before)) (given _)))

@@ -16,31 +16,15 @@ room c =
     let x = known taken (c .before .before .function-argument .ensures) (c .name .given .1) in
     space (start .pre) (x .moved) (earned function-arg-pays x)
 
-returns : tie.Need-returns
-unfolding named-rule
-returns c =
-    let start = c .before .before .before .before .before in
-    met (named-pays _) (start .pre) (bytes-stop _ (known taken (c .before .before .function-argument .ensures) (c .enum-told .given .1)))
-
-push-requires : tie.Need-push-requires
-push-requires c κs = room (c .before .before)
-
-returns-2 : tie.Need-returns-2
-unfolding named-rule
-returns-2 c =
-    let start = c .before .before .before .before .before .before .before .before .before .before in
-    let function-argument = c .before .before .before .before .before .before .before .function-argument in
-    let name = c .before .before .before .before .before .name in
-    met (named-pays _) (start .pre) (bytes-then _ (known taken (function-argument .ensures) (name .given .1)) (added _ _ _ _ _ (c .before .before .push .ensures) (room (c .before .before .before .before .before))))
-
 pub named-spec : {M : Type 1} → statement M
+unfolding named-rule
 named-spec =
     tie.close
     (tie.spec
     (λ c κs. search needs)
     (λ c. search needs)
     (λ c. search needs)
-    returns
-    push-requires
+    (λ c. let start = c .before .before .before .before .before in met (named-pays _) (start .pre) (bytes-stop _ (known taken (c .before .before .function-argument .ensures) (c .enum-told .given .1))))
+    (λ c κs. room (c .before .before))
     (λ c. search needs)
-    returns-2)
+    (λ c. let start = c .before .before .before .before .before .before .before .before .before .before in let function-argument = c .before .before .before .before .before .before .before .function-argument in let name = c .before .before .before .before .before .name in met (named-pays _) (start .pre) (bytes-then _ (known taken (function-argument .ensures) (name .given .1)) (added _ _ _ _ _ (c .before .before .push .ensures) (room (c .before .before .before .before .before))))))

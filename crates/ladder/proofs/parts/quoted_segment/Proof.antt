@@ -7,42 +7,8 @@ use Rattle.lex.proofs.Lexes.{known, then-on, stop, given}
 use Rattle.ladder.proofs.parts.quoted_segment.Statement.{statement}
 use Rattle.ladder.proofs.parts.quoted_segment.Tie as tie
 
-returns : tie.Need-returns
-unfolding quoted-segment-rule segment-name
-returns c = stop _ (known read (c .before .before .word .ensures) (c .enum-told .given .1))
-
-returns-2 : tie.Need-returns-2
-unfolding quoted-segment-rule segment-name
-returns-2 c =
-    let word = c .before .before .before .before .before .before .word in
-    let opened = c .before .before .before .before .opened in
-    then-on _ (known read (word .ensures) (opened .given .1))
-    (stop _ (known taken (c .before .before .take-while .ensures) (c .enum-told2 .given .1)))
-
-returns-3 : tie.Need-returns-3
-unfolding quoted-segment-rule segment-name
-returns-3 c =
-    let word = c .before .before .before .before .before .before .before .before .before .before .before .word in
-    let opened = c .before .before .before .before .before .before .before .before .before .opened in
-    let take-while = c .before .before .before .before .before .before .before .take-while in
-    let name = c .before .before .before .before .before .name in
-    then-on _ (known read (word .ensures) (opened .given .1))
-    (then-on _ (known taken (take-while .ensures) (name .given .1))
-    (stop _ (known read (c .before .before .word2 .ensures) (c .enum-told3 .given .1))))
-
-returns-4 : tie.Need-returns-4
-unfolding quoted-segment-rule segment-name
-returns-4 c =
-    let word = c .before .before .before .before .before .before .before .before .before .before .before .before .word in
-    let opened = c .before .before .before .before .before .before .before .before .before .before .opened in
-    let take-while = c .before .before .before .before .before .before .before .before .take-while in
-    let name = c .before .before .before .before .before .before .name in
-    then-on _ (known read (word .ensures) (opened .given .1))
-    (then-on _ (known taken (take-while .ensures) (name .given .1))
-    (then-on _ (known read (c .before .before .before .word2 .ensures) (c .before .closed .given .1))
-    (given _)))
-
 pub quoted-segment-spec : {M : Type 1} → statement M
+unfolding quoted-segment-rule segment-name
 quoted-segment-spec =
     tie.close
     (tie.spec
@@ -50,14 +16,14 @@ quoted-segment-spec =
     (λ c κs. search needs)
     (λ c. search needs)
     (λ c. search needs)
-    returns
+    (λ c. stop _ (known read (c .before .before .word .ensures) (c .enum-told .given .1)))
     (λ c κs. search needs)
     (λ c. search needs)
     (λ c. search needs)
-    returns-2
+    (λ c. let word = c .before .before .before .before .before .before .word in let opened = c .before .before .before .before .opened in then-on _ (known read (word .ensures) (opened .given .1)) (stop _ (known taken (c .before .before .take-while .ensures) (c .enum-told2 .given .1))))
     (λ c. search needs)
     (λ c κs. search needs)
     (λ c. search needs)
     (λ c. search needs)
-    returns-3
-    returns-4)
+    (λ c. let word = c .before .before .before .before .before .before .before .before .before .before .before .word in let opened = c .before .before .before .before .before .before .before .before .before .opened in let take-while = c .before .before .before .before .before .before .before .take-while in let name = c .before .before .before .before .before .name in then-on _ (known read (word .ensures) (opened .given .1)) (then-on _ (known taken (take-while .ensures) (name .given .1)) (stop _ (known read (c .before .before .word2 .ensures) (c .enum-told3 .given .1)))))
+    (λ c. let word = c .before .before .before .before .before .before .before .before .before .before .before .before .word in let opened = c .before .before .before .before .before .before .before .before .before .before .opened in let take-while = c .before .before .before .before .before .before .before .before .take-while in let name = c .before .before .before .before .before .before .name in then-on _ (known read (word .ensures) (opened .given .1)) (then-on _ (known taken (take-while .ensures) (name .given .1)) (then-on _ (known read (c .before .before .before .word2 .ensures) (c .before .closed .given .1)) (given _)))))

@@ -36,23 +36,8 @@ abbrev at-skip-blanks3 : (c : tie.After-skip-blanks3) → Along (c .before .befo
 unfolding segment-head
 at-skip-blanks3 c = past (at-comma (c .before .before)) _ refl (c .skip-blanks3 .ensures)
 
-returns : tie.Need-returns
-unfolding segment-head
-returns c = missed set-out _ refl (known read (c .before .before .word .ensures) (c .enum-told .given .1))
-
-returns-2 : tie.Need-returns-2
-unfolding segment-head
-returns-2 c = missed (at-skip-blanks (c .before .before .before)) _ refl (known taken (c .before .before .quoted-segment .ensures) (c .enum-told2 .given .1))
-
-returns-3 : tie.Need-returns-3
-unfolding segment-head
-returns-3 c = missed (at-skip-blanks2 (c .before .before .before .before)) _ refl (known read (c .before .before .word2 .ensures) (c .enum-told3 .given .1))
-
-returns-4 : tie.Need-returns-4
-unfolding segment-head
-returns-4 c = arrived (at-skip-blanks3 c) (given _)
-
 pub segment-head-at-spec : {M : Type 1} → statement M
+unfolding segment-head
 segment-head-at-spec =
     tie.close
     (tie.spec
@@ -60,17 +45,17 @@ segment-head-at-spec =
     (λ c κs. search needs)
     (λ c. search needs)
     (λ c. search needs)
-    returns
+    (λ c. missed set-out _ refl (known read (c .before .before .word .ensures) (c .enum-told .given .1)))
     (λ c κs. search needs)
     (λ c κs. search needs)
     (λ c. search needs)
     (λ c. search needs)
-    returns-2
+    (λ c. missed (at-skip-blanks (c .before .before .before)) _ refl (known taken (c .before .before .quoted-segment .ensures) (c .enum-told2 .given .1)))
     (λ c κs. search needs)
     (λ c. search needs)
     (λ c κs. search needs)
     (λ c. search needs)
     (λ c. search needs)
-    returns-3
+    (λ c. missed (at-skip-blanks2 (c .before .before .before .before)) _ refl (known read (c .before .before .word2 .ensures) (c .enum-told3 .given .1)))
     (λ c κs. search needs)
-    returns-4)
+    (λ c. arrived (at-skip-blanks3 c) (given _)))

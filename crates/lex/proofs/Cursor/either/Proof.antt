@@ -5,12 +5,6 @@ use Rattle.lex.proofs.Lexes.{known, first, second, given}
 use Rattle.lex.proofs.Cursor.either.Statement.{statement}
 use Rattle.lex.proofs.Cursor.either.Tie as tie
 
-returns : tie.Need-returns
-returns c = second (known read (c .before .before .before .word .ensures) (c .before .enum-told .given .1)) (c .word2 .ensures)
-
-returns-2 : tie.Need-returns-2
-returns-2 c = first _ (known read (c .before .before .before .word .ensures) (c .before .first .given .1))
-
 pub either-spec : {M : Type 1} → statement M
 either-spec =
-    tie.close (tie.spec (λ c κs. search needs) (λ c. search needs) (λ c. search needs) (λ c κs. search needs) returns returns-2)
+    tie.close (tie.spec (λ c κs. search needs) (λ c. search needs) (λ c. search needs) (λ c κs. search needs) (λ c. second (known read (c .before .before .before .word .ensures) (c .before .enum-told .given .1)) (c .word2 .ensures)) (λ c. first _ (known read (c .before .before .before .word .ensures) (c .before .first .given .1))))

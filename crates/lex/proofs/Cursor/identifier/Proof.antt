@@ -9,40 +9,17 @@ use Rattle.lex.proofs.Lexes.{known, then-on, stop, chosen, passed-over,
 use Rattle.lex.proofs.Cursor.identifier.Statement.{statement}
 use Rattle.lex.proofs.Cursor.identifier.Tie as tie
 
-returns : tie.Need-returns
-unfolding identifier
-returns c = stop _ (known taken (c .before .before .take-while .ensures) (c .enum-told2 .given .1))
-
-returns-2 : tie.Need-returns-2
-unfolding identifier
-returns-2 c =
-    let take-while = c .before .before .before .before .before .before .take-while in
-    let enum-told = c .before .before .before .before .enum-told in
-    let x = known taken (take-while .ensures) (enum-told .given .1) in
-    known taken (then-on _ x (then-on _ (named _) (chosen _ (ap is-initial (first-byte is-identifier x) ∙ sym (c .before .is-initial .ensures) ∙ c .if2 .taken) (given _)))) (sym (enum-told .given .1))
-
-returns-3 : tie.Need-returns-3
-unfolding identifier
-returns-3 c =
-    let take-while = c .before .before .before .before .before .before .take-while in
-    let enum-told = c .before .before .before .before .enum-told in
-    let x = known taken (take-while .ensures) (enum-told .given .1) in
-    then-on _ x (then-on _ (named _) (passed-over _ (ap is-initial (first-byte is-identifier x) ∙ sym (c .before .is-initial .ensures) ∙ c .if2 .left) refused))
-
-returns-4 : tie.Need-returns-4
-returns-4 c =
-    absurd (let w = within is-identifier (known taken (c .before .before .before .take-while .ensures) (c .before .enum-told .given .1)) in omega (arith, c .if1 .left))
-
 pub identifier-spec : {M : Type 1} → statement M
+unfolding identifier
 identifier-spec =
     tie.close
     (tie.spec
     (λ c κs. search needs)
     (λ c. search needs)
     (λ c. search needs)
-    returns
+    (λ c. stop _ (known taken (c .before .before .take-while .ensures) (c .enum-told2 .given .1)))
     (λ c. search needs)
     (λ c κs. search needs)
-    returns-2
-    returns-3
-    returns-4)
+    (λ c. let take-while = c .before .before .before .before .before .before .take-while in let enum-told = c .before .before .before .before .enum-told in let x = known taken (take-while .ensures) (enum-told .given .1) in known taken (then-on _ x (then-on _ (named _) (chosen _ (ap is-initial (first-byte is-identifier x) ∙ sym (c .before .is-initial .ensures) ∙ c .if2 .taken) (given _)))) (sym (enum-told .given .1)))
+    (λ c. let take-while = c .before .before .before .before .before .before .take-while in let enum-told = c .before .before .before .before .enum-told in let x = known taken (take-while .ensures) (enum-told .given .1) in then-on _ x (then-on _ (named _) (passed-over _ (ap is-initial (first-byte is-identifier x) ∙ sym (c .before .is-initial .ensures) ∙ c .if2 .left) refused)))
+    (λ c. absurd (let w = within is-identifier (known taken (c .before .before .before .take-while .ensures) (c .before .enum-told .given .1)) in omega (arith, c .if1 .left))))

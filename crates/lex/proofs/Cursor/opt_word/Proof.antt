@@ -20,20 +20,13 @@ abbrev at-found : (c : tie.After-found) → Along (c .before .before .before .be
 unfolding opt-tag
 at-found c = past set-out _ refl (opt-some (known read (c .before .before .word .ensures) (c .found .given .1)))
 
-returns : tie.Need-returns
-unfolding opt-tag
-returns c = arrived (at-enum-told c) (given _)
-
-returns-2 : tie.Need-returns-2
-unfolding opt-tag
-returns-2 c = arrived (at-found (c .before)) (given _)
-
 pub opt-word-spec : {M : Type 1} → statement M
+unfolding opt-tag
 opt-word-spec =
     tie.close
     (tie.spec
     (λ c κs. search needs)
     (λ c. search needs)
     (λ c. search needs)
-    returns
-    returns-2)
+    (λ c. arrived (at-enum-told c) (given _))
+    (λ c. arrived (at-found (c .before)) (given _)))

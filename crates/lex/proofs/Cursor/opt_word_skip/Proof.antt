@@ -20,15 +20,8 @@ abbrev at-found : (c : tie.After-found) → Along (c .before .before .before .be
 unfolding opt-tag-skip
 at-found c = past set-out _ refl (opt-some (known read (c .before .before .word .ensures) (c .found .given .1)))
 
-returns : tie.Need-returns
-unfolding opt-tag-skip
-returns c = arrived (at-enum-told (c .before)) (c .skip .ensures)
-
-returns-2 : tie.Need-returns-2
-unfolding opt-tag-skip
-returns-2 c = arrived (at-found (c .before .before)) (c .skip2 .ensures)
-
 pub opt-word-skip-spec : {M : Type 1} → statement M
+unfolding opt-tag-skip
 opt-word-skip-spec =
     tie.close
     (tie.spec
@@ -36,6 +29,6 @@ opt-word-skip-spec =
     (λ c. search needs)
     (λ c. search needs)
     (λ c κs. search needs)
-    returns
+    (λ c. arrived (at-enum-told (c .before)) (c .skip .ensures))
     (λ c κs. search needs)
-    returns-2)
+    (λ c. arrived (at-found (c .before .before)) (c .skip2 .ensures)))

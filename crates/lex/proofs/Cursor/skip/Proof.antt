@@ -15,42 +15,19 @@ Inv-loop script c₀ c = Turned script c₀ c
 abbrev μ-loop : tie.MeasureT-loop
 μ-loop script c₀ c = length script - c .at
 
-loop-holds : tie.Need-loop-holds Inv-loop μ-loop
-loop-holds c = begun _ _
-
-loop-less : tie.Need-loop-less Inv-loop μ-loop
-loop-less c =
-    let loop = c .before .before .before .before .before .loop in
-    let skip-blanks = c .before .before .before .before .skip-blanks in
-    let a = ahead (loop .inv) (skip-blanks .ensures) (known (commented _) (c .before .before .before .comment .ensures) (c .before .one .given .1)) in omega arith
-
-loop-again : tie.Need-loop-again Inv-loop μ-loop
-loop-again c =
-    let loop = c .before .before .before .before .before .loop in
-    let skip-blanks = c .before .before .before .before .skip-blanks in
-    turned (loop .inv) (skip-blanks .ensures) (known (commented _) (c .before .before .before .comment .ensures) (c .before .one .given .1))
-
-returns : tie.Need-returns Inv-loop μ-loop
-returns c =
-    ended (c .before .before .before .before .loop .inv) (c .before .before .before .skip-blanks .ensures) (known (commented _) (c .before .before .comment .ensures) (c .enum-told .given .1))
-
-returns-2 : tie.Need-returns-2 Inv-loop μ-loop
-returns-2 c =
-    unended (c .before .before .before .before .loop .inv) (c .before .before .before .skip-blanks .ensures) (known (commented _) (c .before .before .comment .ensures) (c .enum-told2 .given .1))
-
 pub skip-spec : {M : Type 1} → statement M
 skip-spec =
     tie.close
     (tie.spec
     Inv-loop
     μ-loop
-    loop-holds
+    (λ c. begun _ _)
     (λ c κs. search needs)
     (λ c κs. search needs)
     (λ c. search needs)
-    loop-less
-    loop-again
+    (λ c. let loop = c .before .before .before .before .before .loop in let skip-blanks = c .before .before .before .before .skip-blanks in let a = ahead (loop .inv) (skip-blanks .ensures) (known (commented _) (c .before .before .before .comment .ensures) (c .before .one .given .1)) in omega arith)
+    (λ c. let loop = c .before .before .before .before .before .loop in let skip-blanks = c .before .before .before .before .skip-blanks in turned (loop .inv) (skip-blanks .ensures) (known (commented _) (c .before .before .before .comment .ensures) (c .before .one .given .1)))
     (λ c. search needs)
-    returns
+    (λ c. ended (c .before .before .before .before .loop .inv) (c .before .before .before .skip-blanks .ensures) (known (commented _) (c .before .before .comment .ensures) (c .enum-told .given .1)))
     (λ c. search needs)
-    returns-2)
+    (λ c. unended (c .before .before .before .before .loop .inv) (c .before .before .before .skip-blanks .ensures) (known (commented _) (c .before .before .comment .ensures) (c .enum-told2 .given .1))))

@@ -9,14 +9,6 @@ use Rattle.lex.proofs.Lexes.{run-over}
 use Rattle.lex.proofs.Cursor.skip_blanks.Statement.{statement}
 use Rattle.lex.proofs.Cursor.skip_blanks.Tie as tie
 
-past-requires : tie.Need-past-requires
-past-requires c κs =
-    let start = c .before .before .before in
-    omega (arith, run-inside is-blank (start .args .script .now) (start .args .self .at), c .run .ensures ∙ ap (run-of _) (c .before .rest .ensures))
-
-returns : tie.Need-returns
-unfolding multispace0
-returns c = run-over is-blank (c .before .run .ensures ∙ ap (run-of _) (c .before .before .rest .ensures)) (c .past .ensures)
-
 pub skip-blanks-spec : {M : Type 1} → statement M
-skip-blanks-spec = tie.close (tie.spec (λ c κs. search needs) (λ c κs. search needs) past-requires returns)
+unfolding multispace0
+skip-blanks-spec = tie.close (tie.spec (λ c κs. search needs) (λ c κs. search needs) (λ c κs. let start = c .before .before .before in omega (arith, run-inside is-blank (start .args .script .now) (start .args .self .at), c .run .ensures ∙ ap (run-of _) (c .before .rest .ensures))) (λ c. run-over is-blank (c .before .run .ensures ∙ ap (run-of _) (c .before .before .rest .ensures)) (c .past .ensures)))

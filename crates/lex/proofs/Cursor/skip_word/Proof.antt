@@ -16,21 +16,14 @@ abbrev at-skipped : (c : tie.After-skipped) → Along (c .before .before .before
 unfolding skip-tag
 at-skipped c = past set-out _ refl (known read (c .before .before .skip .ensures) (c .skipped .given .1))
 
-returns : tie.Need-returns
-unfolding skip-tag
-returns c = missed set-out _ refl (known read (c .before .before .skip .ensures) (c .enum-told .given .1))
-
-returns-2 : tie.Need-returns-2
-unfolding skip-tag
-returns-2 c = arrived (at-skipped (c .before .before)) (c .word .ensures)
-
 pub skip-word-spec : {M : Type 1} → statement M
+unfolding skip-tag
 skip-word-spec =
     tie.close
     (tie.spec
     (λ c κs. search needs)
     (λ c. search needs)
     (λ c. search needs)
-    returns
+    (λ c. missed set-out _ refl (known read (c .before .before .skip .ensures) (c .enum-told .given .1)))
     (λ c κs. search needs)
-    returns-2)
+    (λ c. arrived (at-skipped (c .before .before)) (c .word .ensures)))

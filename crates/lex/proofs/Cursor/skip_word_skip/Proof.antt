@@ -20,29 +20,18 @@ abbrev at-found : (c : tie.After-found) → Along (c .before .before .before .be
 unfolding skip-tag-skip
 at-found c = past (at-skipped (c .before .before .before .before)) _ refl (known read (c .before .before .word .ensures) (c .found .given .1))
 
-returns : tie.Need-returns
-unfolding skip-tag-skip
-returns c = missed set-out _ refl (known read (c .before .before .skip .ensures) (c .enum-told .given .1))
-
-returns-2 : tie.Need-returns-2
-unfolding skip-tag-skip
-returns-2 c = missed (at-skipped (c .before .before .before .before)) _ refl (known read (c .before .before .word .ensures) (c .enum-told2 .given .1))
-
-returns-3 : tie.Need-returns-3
-unfolding skip-tag-skip
-returns-3 c = arrived (at-found (c .before .before)) (c .skip2 .ensures)
-
 pub skip-word-skip-spec : {M : Type 1} → statement M
+unfolding skip-tag-skip
 skip-word-skip-spec =
     tie.close
     (tie.spec
     (λ c κs. search needs)
     (λ c. search needs)
     (λ c. search needs)
-    returns
+    (λ c. missed set-out _ refl (known read (c .before .before .skip .ensures) (c .enum-told .given .1)))
     (λ c κs. search needs)
     (λ c. search needs)
     (λ c. search needs)
-    returns-2
+    (λ c. missed (at-skipped (c .before .before .before .before)) _ refl (known read (c .before .before .word .ensures) (c .enum-told2 .given .1)))
     (λ c κs. search needs)
-    returns-3)
+    (λ c. arrived (at-found (c .before .before)) (c .skip2 .ensures)))

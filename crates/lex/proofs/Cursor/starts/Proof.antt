@@ -5,8 +5,5 @@ use Rattle.rules.specs.Text.{begins as begins-with}
 use Rattle.lex.proofs.Cursor.starts.Statement.{statement}
 use Rattle.lex.proofs.Cursor.starts.Tie as tie
 
-returns : tie.Need-returns
-returns c = c .begins .ensures ∙ ap (begins-with _) (c .before .rest .ensures)
-
 pub starts-spec : {M : Type 1} → statement M
-starts-spec = tie.close (tie.spec (λ c κs. search needs) (λ c κs. search needs) returns)
+starts-spec = tie.close (tie.spec (λ c κs. search needs) (λ c κs. search needs) (λ c. c .begins .ensures ∙ ap (begins-with _) (c .before .rest .ensures)))

@@ -8,16 +8,5 @@ use Rattle.lex.proofs.Lexes.{tag-read, tag-lost}
 use Rattle.lex.proofs.Cursor.word.Statement.{statement}
 use Rattle.lex.proofs.Cursor.word.Tie as tie
 
-past-requires : tie.Need-past-requires
-past-requires c κs =
-    let start = c .before .before .before .before in
-    omega (arith, begins-inside (start .args .w .now) (start .args .script .now) (start .args .self .at) (sym (c .before .starts .ensures) ∙ c .if1 .taken))
-
-returns : tie.Need-returns
-returns c = tag-read _ (sym (c .before .before .starts .ensures) ∙ c .before .if1 .taken) (c .past .ensures)
-
-returns-2 : tie.Need-returns-2
-returns-2 c = tag-lost _ (sym (c .before .starts .ensures) ∙ c .if1 .left)
-
 pub word-spec : {M : Type 1} → statement M
-word-spec = tie.close (tie.spec (λ c κs. search needs) past-requires returns returns-2)
+word-spec = tie.close (tie.spec (λ c κs. search needs) (λ c κs. let start = c .before .before .before .before in omega (arith, begins-inside (start .args .w .now) (start .args .script .now) (start .args .self .at) (sym (c .before .starts .ensures) ∙ c .if1 .taken))) (λ c. tag-read _ (sym (c .before .before .starts .ensures) ∙ c .before .if1 .taken) (c .past .ensures)) (λ c. tag-lost _ (sym (c .before .starts .ensures) ∙ c .if1 .left)))

@@ -16,21 +16,14 @@ abbrev at-found : (c : tie.After-found) → Along (c .before .before .before .be
 unfolding tag-skip
 at-found c = past set-out _ refl (known read (c .before .before .word .ensures) (c .found .given .1))
 
-returns : tie.Need-returns
-unfolding tag-skip
-returns c = missed set-out _ refl (known read (c .before .before .word .ensures) (c .enum-told .given .1))
-
-returns-2 : tie.Need-returns-2
-unfolding tag-skip
-returns-2 c = arrived (at-found (c .before .before)) (c .skip .ensures)
-
 pub word-skip-spec : {M : Type 1} → statement M
+unfolding tag-skip
 word-skip-spec =
     tie.close
     (tie.spec
     (λ c κs. search needs)
     (λ c. search needs)
     (λ c. search needs)
-    returns
+    (λ c. missed set-out _ refl (known read (c .before .before .word .ensures) (c .enum-told .given .1)))
     (λ c κs. search needs)
-    returns-2)
+    (λ c. arrived (at-found (c .before .before)) (c .skip .ensures)))

@@ -16,28 +16,16 @@ Inv-loop l b i₀ i = (one-of l b ≡ one-of (drop i l) b) × (i ≤ length l)
 abbrev μ-loop : tie.MeasureT-loop
 μ-loop l b i₀ i = length l - i
 
-loop-holds : tie.Need-loop-holds Inv-loop μ-loop
-loop-holds c = (refl, omega arith)
-
-returns : tie.Need-returns Inv-loop μ-loop
-returns c = sym (c .before .before .before .loop .inv .0 ∙ among-here _ _ _ (c .before .before .loop-test .taken) (c .if1 .taken))
-
-loop-again : tie.Need-loop-again Inv-loop μ-loop
-loop-again c = (c .before .before .before .loop .inv .0 ∙ among-on _ _ _ (c .before .before .loop-test .taken) (c .if1 .left), omega arith)
-
-returns-2 : tie.Need-returns-2 Inv-loop μ-loop
-returns-2 c = sym (c .before .loop .inv .0 ∙ among-end _ _ _ (c .loop-test .left))
-
 pub among-spec : {M : Type 1} → statement M
 among-spec =
     tie.close
     (tie.spec
     Inv-loop
     μ-loop
-    loop-holds
+    (λ c. (refl, omega arith))
     (λ c. search needs)
-    returns
+    (λ c. sym (c .before .before .before .loop .inv .0 ∙ among-here _ _ _ (c .before .before .loop-test .taken) (c .if1 .taken)))
     (λ c. search needs)
     (λ c. search needs)
-    loop-again
-    returns-2)
+    (λ c. (c .before .before .before .loop .inv .0 ∙ among-on _ _ _ (c .before .before .loop-test .taken) (c .if1 .left), omega arith))
+    (λ c. sym (c .before .loop .inv .0 ∙ among-end _ _ _ (c .loop-test .left))))

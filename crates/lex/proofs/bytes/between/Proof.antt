@@ -4,11 +4,5 @@ use Rattle.lex.specs.Contract.{taken}
 use Rattle.lex.proofs.bytes.between.Statement.{statement}
 use Rattle.lex.proofs.bytes.between.Tie as tie
 
-returns : tie.Need-returns
-returns c = rw (lt-leb (c .before .args .least) (c .before .args .b) (c .if1 .taken))
-
-returns-2 : tie.Need-returns-2
-returns-2 c = rw (le-leb (c .before .args .least) (c .before .args .b) (c .if1 .left))
-
 pub between-spec : {M : Type 1} → statement M
-between-spec = tie.close (tie.spec returns returns-2)
+between-spec = tie.close (tie.spec (λ c. rw (lt-leb (c .before .args .least) (c .before .args .b) (c .if1 .taken))) (λ c. rw (le-leb (c .before .args .least) (c .before .args .b) (c .if1 .left))))

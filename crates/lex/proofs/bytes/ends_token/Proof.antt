@@ -8,12 +8,6 @@ use Rattle.lex.specs.Contract.{taken}
 use Rattle.lex.proofs.bytes.ends_token.Statement.{statement}
 use Rattle.lex.proofs.bytes.ends_token.Tie as tie
 
-returns : tie.Need-returns
-returns c = or-first _ (c .before .among .ensures) (c .if1 .taken) ∙ sym (among-both (ascii " (){") (ascii "};,\n\t") _)
-
-returns-2 : tie.Need-returns-2
-returns-2 c = or-second (c .before .before .before .among .ensures) (c .before .before .if1 .left) (c .among2 .ensures) ∙ sym (among-both (ascii " (){") (ascii "};,\n\t") _)
-
 pub ends-token-spec : {M : Type 1} → statement M
 ends-token-spec =
-    tie.close (tie.spec (λ c. search needs) (λ c κs. search needs) returns (λ c. search needs) (λ c κs. search needs) returns-2)
+    tie.close (tie.spec (λ c. search needs) (λ c κs. search needs) (λ c. or-first _ (c .before .among .ensures) (c .if1 .taken) ∙ sym (among-both (ascii " (){") (ascii "};,\n\t") _)) (λ c. search needs) (λ c κs. search needs) (λ c. or-second (c .before .before .before .among .ensures) (c .before .before .if1 .left) (c .among2 .ensures) ∙ sym (among-both (ascii " (){") (ascii "};,\n\t") _)))

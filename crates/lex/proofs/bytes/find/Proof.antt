@@ -17,33 +17,17 @@ Inv-loop w l i₀ i = (find-in w l ≡ further i (find-in w (drop i l))) × (i �
 abbrev μ-loop : tie.MeasureT-loop
 μ-loop w l i₀ i = length l - i
 
-loop-holds : tie.Need-loop-holds Inv-loop μ-loop
-loop-holds c = (sym (further-none _), omega arith)
-
-returns : tie.Need-returns Inv-loop μ-loop
-returns c =
-    sym (c .before .before .before .before .loop .inv .0 ∙ ap (further _) (find-here _ _ _ (c .before .before .before .loop-test .taken) (ap (begins-with _) (sym (c .before .before .rest .ensures)) ∙ sym (c .before .begins .ensures) ∙ c .if1 .taken)) ∙ ap some (omega arith))
-
-loop-again : tie.Need-loop-again Inv-loop μ-loop
-loop-again c =
-    let loop = c .before .before .before .before .loop in
-    let start = c .before .before .before .before .before .before .before in
-    (loop .inv .0 ∙ ap (further _) (find-on _ _ _ (c .before .before .before .loop-test .taken) (ap (begins-with _) (sym (c .before .before .rest .ensures)) ∙ sym (c .before .begins .ensures) ∙ c .if1 .left)) ∙ further-on (loop .i) (find-in (start .args .w .now) (drop (loop .i + 1) (start .args .l .now))), omega arith)
-
-returns-2 : tie.Need-returns-2 Inv-loop μ-loop
-returns-2 c = sym (c .before .loop .inv .0 ∙ ap (further _) (find-end _ _ _ (c .loop-test .left)))
-
 pub find-spec : {M : Type 1} → statement M
 find-spec =
     tie.close
     (tie.spec
     Inv-loop
     μ-loop
-    loop-holds
+    (λ c. (sym (further-none _), omega arith))
     (λ c κs. search needs)
     (λ c κs. search needs)
-    returns
+    (λ c. sym (c .before .before .before .before .loop .inv .0 ∙ ap (further _) (find-here _ _ _ (c .before .before .before .loop-test .taken) (ap (begins-with _) (sym (c .before .before .rest .ensures)) ∙ sym (c .before .begins .ensures) ∙ c .if1 .taken)) ∙ ap some (omega arith)))
     (λ c. search needs)
     (λ c. search needs)
-    loop-again
-    returns-2)
+    (λ c. let loop = c .before .before .before .before .loop in let start = c .before .before .before .before .before .before .before in (loop .inv .0 ∙ ap (further _) (find-on _ _ _ (c .before .before .before .loop-test .taken) (ap (begins-with _) (sym (c .before .before .rest .ensures)) ∙ sym (c .before .begins .ensures) ∙ c .if1 .left)) ∙ further-on (loop .i) (find-in (start .args .w .now) (drop (loop .i + 1) (start .args .l .now))), omega arith))
+    (λ c. sym (c .before .loop .inv .0 ∙ ap (further _) (find-end _ _ _ (c .loop-test .left)))))

@@ -5,11 +5,5 @@ use Rattle.lex.specs.Contract.{taken}
 use Rattle.lex.proofs.bytes.is_hex.Statement.{statement}
 use Rattle.lex.proofs.bytes.is_hex.Tie as tie
 
-returns : tie.Need-returns
-returns c = or-first _ (c .before .is-digit .ensures) (c .if1 .taken)
-
-returns-2 : tie.Need-returns-2
-returns-2 c = or-second (c .before .before .is-digit .ensures) (c .before .if1 .left) (c .is-hex-letter .ensures)
-
 pub is-hex-spec : {M : Type 1} → statement M
-is-hex-spec = tie.close (tie.spec (λ c κs. search needs) returns (λ c κs. search needs) returns-2)
+is-hex-spec = tie.close (tie.spec (λ c κs. search needs) (λ c. or-first _ (c .before .is-digit .ensures) (c .if1 .taken)) (λ c κs. search needs) (λ c. or-second (c .before .before .is-digit .ensures) (c .before .if1 .left) (c .is-hex-letter .ensures)))

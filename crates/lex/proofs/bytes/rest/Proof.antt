@@ -8,16 +8,6 @@ use lib.Seq.{take-all}
 use Rattle.lex.proofs.bytes.rest.Statement.{statement}
 use Rattle.lex.proofs.bytes.rest.Tie as tie
 
-returns : tie.Need-returns
-returns c =
-    let start = c .before .before in
-    take-all (length (start .args .script .now) - start .args .at) (drop (start .args .at) (start .args .script .now)) (omega (arith, length-drop (start .args .at) (start .args .script .now)))
-
-returns-2 : tie.Need-returns-2
-returns-2 c =
-    let start = c .before .before in
-    sym (drop-of-length-le (start .args .script .now) {i = start .args .at} (omega arith))
-
 pub rest-spec : {M : Type 1} → statement M
 rest-spec =
     tie.close
@@ -26,5 +16,5 @@ rest-spec =
     (λ c. search needs)
     (λ c. search needs)
     (λ c. search needs)
-    returns
-    returns-2)
+    (λ c. let start = c .before .before in take-all (length (start .args .script .now) - start .args .at) (drop (start .args .at) (start .args .script .now)) (omega (arith, length-drop (start .args .at) (start .args .script .now))))
+    (λ c. let start = c .before .before in sym (drop-of-length-le (start .args .script .now) {i = start .args .at} (omega arith))))

@@ -18,38 +18,17 @@ Inv-loop class l i₀ i = (run-of (has class) l ≡ i + run-of (has class) (drop
 abbrev μ-loop : tie.MeasureT-loop
 μ-loop class l i₀ i = length l - i
 
-loop-holds : tie.Need-loop-holds Inv-loop μ-loop
-loop-holds c = (omega arith, omega arith)
-
-returns : tie.Need-returns Inv-loop μ-loop
-returns c =
-    let loop = c .before .before .before .before .loop in
-    let start = c .before .before .before .before .before .before in
-    omega (arith, loop .inv .0, run-stop (has (start .args .class)) (start .args .l .now) (loop .i) (c .before .before .before .loop-test .taken) (sym (c .before .holds .ensures) ∙ not-true _ (c .if1 .taken)))
-
-loop-again : tie.Need-loop-again Inv-loop μ-loop
-loop-again c =
-    let loop = c .before .before .before .before .loop in
-    let start = c .before .before .before .before .before .before in
-    (omega (arith, loop .inv .0, run-on (has (start .args .class)) (start .args .l .now) (loop .i) (c .before .before .before .loop-test .taken) (sym (c .before .holds .ensures) ∙ not-false _ (c .if1 .left))), omega arith)
-
-returns-2 : tie.Need-returns-2 Inv-loop μ-loop
-returns-2 c =
-    let loop = c .before .loop in
-    let start = c .before .before .before in
-    omega (arith, loop .inv .0, run-end (has (start .args .class)) (start .args .l .now) (loop .i) (c .loop-test .left))
-
 pub run-spec : {M : Type 1} → statement M
 run-spec =
     tie.close
     (tie.spec
     Inv-loop
     μ-loop
-    loop-holds
+    (λ c. (omega arith, omega arith))
     (λ c. search needs)
     (λ c κs. search needs)
-    returns
+    (λ c. let loop = c .before .before .before .before .loop in let start = c .before .before .before .before .before .before in omega (arith, loop .inv .0, run-stop (has (start .args .class)) (start .args .l .now) (loop .i) (c .before .before .before .loop-test .taken) (sym (c .before .holds .ensures) ∙ not-true _ (c .if1 .taken))))
     (λ c. search needs)
     (λ c. search needs)
-    loop-again
-    returns-2)
+    (λ c. let loop = c .before .before .before .before .loop in let start = c .before .before .before .before .before .before in (omega (arith, loop .inv .0, run-on (has (start .args .class)) (start .args .l .now) (loop .i) (c .before .before .before .loop-test .taken) (sym (c .before .holds .ensures) ∙ not-false _ (c .if1 .left))), omega arith))
+    (λ c. let loop = c .before .loop in let start = c .before .before .before in omega (arith, loop .inv .0, run-end (has (start .args .class)) (start .args .l .now) (loop .i) (c .loop-test .left))))

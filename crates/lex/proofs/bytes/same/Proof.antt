@@ -6,11 +6,5 @@ use Rattle.lex.specs.Contract.{taken}
 use Rattle.lex.proofs.bytes.same.Statement.{statement}
 use Rattle.lex.proofs.bytes.same.Tie as tie
 
-returns : tie.Need-returns
-returns c = sym (same-other _ _ (c .if1 .taken))
-
-returns-2 : tie.Need-returns-2
-returns-2 c = c .begins .ensures ∙ sym (same-long _ _ (c .before .if1 .left))
-
 pub same-spec : {M : Type 1} → statement M
-same-spec = tie.close (tie.spec returns (λ c κs. search needs) returns-2)
+same-spec = tie.close (tie.spec (λ c. sym (same-other _ _ (c .if1 .taken))) (λ c κs. search needs) (λ c. c .begins .ensures ∙ sym (same-long _ _ (c .before .if1 .left))))

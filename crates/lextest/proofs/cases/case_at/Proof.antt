@@ -6,18 +6,6 @@ use Rattle.fields.specs.Fields.{After}
 use Rattle.lextest.proofs.cases.case_at.Statement.{statement}
 use Rattle.lextest.proofs.cases.case_at.Tie as tie
 
-sub-if4 : tie.Need-sub-if4
-sub-if4 c =
-    let ends = subst (After _ _) (c .before .size .given .1) (c .before .before .before .field-at .ensures) in
-    omega arith
-
-returns-7 : tie.Need-returns-7
-returns-7 c =
-    let size = c .before .before .before .before .before .size in
-    let field-at = c .before .before .before .before .before .before .before .field-at in
-    let ends = subst (After _ _) (size .given .1) (field-at .ensures) in
-    (omega arith, omega arith)
-
 pub case-at-spec : {M : Type 1} → statement M
 case-at-spec =
     tie.close
@@ -33,7 +21,7 @@ case-at-spec =
     (λ c. search needs)
     (λ c. search needs)
     (λ c. search needs)
-    sub-if4
+    (λ c. let ends = subst (After _ _) (c .before .size .given .1) (c .before .before .before .field-at .ensures) in omega arith)
     (λ c. search needs)
     (λ c. search needs)
     (λ c. search needs)
@@ -41,4 +29,4 @@ case-at-spec =
     (λ c. search needs)
     (λ c. search needs)
     (λ c. search needs)
-    returns-7)
+    (λ c. let size = c .before .before .before .before .before .size in let field-at = c .before .before .before .before .before .before .before .field-at in let ends = subst (After _ _) (size .given .1) (field-at .ensures) in (omega arith, omega arith)))

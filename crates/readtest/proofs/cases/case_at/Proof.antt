@@ -6,16 +6,6 @@ use Rattle.readtest.specs.Cases.{Headed}
 use Rattle.readtest.proofs.cases.case_at.Statement.{statement}
 use Rattle.readtest.proofs.cases.case_at.Tie as tie
 
-sub-if1 : tie.Need-sub-if1
-sub-if1 c =
-    let ends = subst (Headed _ _) (c .before .line .given .1) (c .before .before .before .header-at .ensures) in
-    omega arith
-
-returns-5 : tie.Need-returns-5
-returns-5 c =
-    let ends = subst (Headed _ _) (c .before .before .before .before .before .line .given .1) (c .before .before .before .before .before .before .before .header-at .ensures) in
-    (omega arith, omega arith)
-
 pub case-at-spec : {M : Type 1} → statement M
 case-at-spec =
     tie.close
@@ -24,7 +14,7 @@ case-at-spec =
     (λ c. search needs)
     (λ c. search needs)
     (λ c. search needs)
-    sub-if1
+    (λ c. let ends = subst (Headed _ _) (c .before .line .given .1) (c .before .before .before .header-at .ensures) in omega arith)
     (λ c. search needs)
     (λ c. search needs)
     (λ c. search needs)
@@ -36,4 +26,4 @@ case-at-spec =
     (λ c. search needs)
     (λ c. search needs)
     (λ c. search needs)
-    returns-5)
+    (λ c. let ends = subst (Headed _ _) (c .before .before .before .before .before .line .given .1) (c .before .before .before .before .before .before .before .header-at .ensures) in (omega arith, omega arith)))

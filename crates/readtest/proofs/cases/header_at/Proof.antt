@@ -6,14 +6,6 @@ use Rattle.fields.specs.Fields.{After}
 use Rattle.readtest.proofs.cases.header_at.Statement.{statement}
 use Rattle.readtest.proofs.cases.header_at.Tie as tie
 
-returns-5 : tie.Need-returns-5
-returns-5 c =
-    let fourth = subst (After _ _) (c .before .fourth .given .1) (c .before .before .before .field-at4 .ensures) in
-    let third = subst (After _ _) (c .before .before .before .before .before .third .given .1) (c .before .before .before .before .before .before .before .field-at3 .ensures) in
-    let second = subst (After _ _) (c .before .before .before .before .before .before .before .before .before .second .given .1) (c .before .before .before .before .before .before .before .before .before .before .before .field-at2 .ensures) in
-    let first = subst (After _ _) (c .before .before .before .before .before .before .before .before .before .before .before .before .before .first .given .1) (c .before .before .before .before .before .before .before .before .before .before .before .before .before .before .before .field-at .ensures) in
-    (omega arith, omega arith)
-
 pub header-at-spec : {M : Type 1} → statement M
 header-at-spec =
     tie.close
@@ -34,4 +26,4 @@ header-at-spec =
     (λ c. search needs)
     (λ c. search needs)
     (λ c. search needs)
-    returns-5)
+    (λ c. let fourth = subst (After _ _) (c .before .fourth .given .1) (c .before .before .before .field-at4 .ensures) in let third = subst (After _ _) (c .before .before .before .before .before .third .given .1) (c .before .before .before .before .before .before .before .field-at3 .ensures) in let second = subst (After _ _) (c .before .before .before .before .before .before .before .before .before .second .given .1) (c .before .before .before .before .before .before .before .before .before .before .before .field-at2 .ensures) in let first = subst (After _ _) (c .before .before .before .before .before .before .before .before .before .before .before .before .before .first .given .1) (c .before .before .before .before .before .before .before .before .before .before .before .before .before .before .before .field-at .ensures) in (omega arith, omega arith)))

@@ -5,9 +5,6 @@ use borrow.Author.Needs.{needs}
 use Rattle.tape.proofs.Counted.step.Statement.{statement}
 use Rattle.tape.proofs.Counted.step.Tie as tie
 
-returns : tie.Need-returns
-returns c = sym (ap (λ r. valued tt (counted r)) (c .before .self .given .1))
-
 pub step-spec : {M : Type 1} → statement M
 step-spec =
     tie.close
@@ -15,6 +12,6 @@ step-spec =
     (λ c. search needs)
     (λ c. search needs)
     (λ c. search needs)
-    returns
+    (λ c. sym (ap (λ r. valued tt (counted r)) (c .before .self .given .1)))
     (λ c. search needs)
     (λ c. search needs))

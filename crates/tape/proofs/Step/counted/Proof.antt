@@ -5,9 +5,6 @@ use borrow.Author.Needs.{needs}
 use Rattle.tape.proofs.Step.counted.Statement.{statement}
 use Rattle.tape.proofs.Step.counted.Tie as tie
 
-returns : tie.Need-returns
-returns c = sym (ap (λ r. valued (c .before .before .before .args .n) (stepped r)) (c .before .self .given .1))
-
 pub counted-spec : {M : Type 1} → statement M
 counted-spec =
     tie.close
@@ -15,6 +12,6 @@ counted-spec =
     (λ c. search needs)
     (λ c. search needs)
     (λ c. search needs)
-    returns
+    (λ c. sym (ap (λ r. valued (c .before .before .before .args .n) (stepped r)) (c .before .self .given .1)))
     (λ c. search needs)
     (λ c. search needs))
