@@ -1,6 +1,8 @@
 // Decimal fields: how the test programs read the numbers of their inputs.
-ghost use lib.ListN.{length};
-ghost use Rattle.fields.specs.Fields.{After};
+ghost use mathlib.Core.Path.{_≡_};
+ghost use mathlib.Core.Bool.{true};
+ghost use lib.ListN.{length, drop};
+ghost use Rattle.fields.specs.Fields.{longer, grown, field, After};
 
 // A number with a digit more.
 enum Grown {
@@ -15,7 +17,9 @@ pub enum Field {
 }
 
 // v with the digit b at its end, where b is one and the number fits 64 bits.
-fn with_digit(v: usize, b: u8) -> Grown {
+fn with_digit(v: usize, b: u8) -> Grown
+    ensures { λ r. ⌜ grown r ≡ longer v b ⌝ }
+{
     if b < b'0' {
         return Grown::Not;
     }
@@ -31,6 +35,7 @@ fn with_digit(v: usize, b: u8) -> Grown {
 
 // One or more digits from a place on, up to the byte that ends them.
 pub fn field_at(l: &[u8], from: usize, end: u8) -> Field
+    ensures { λ r. ⌜ r ≡ field end (drop from (now (l .entry))) true 0 from ⌝ }
     ensures { λ r. ⌜ After (length (now (l .entry))) from r ⌝ }
 {
     let mut v = 0;

@@ -26,4 +26,4 @@ header-at-spec =
     (λ c. search needs)
     (λ c. search needs)
     (λ c. search needs)
-    (λ c. let fourth = subst (After _ _) (c .before .fourth .given .1) (c .before .before .before .field-at4 .ensures) in let third = subst (After _ _) (c .before .before .before .before .before .third .given .1) (c .before .before .before .before .before .before .before .field-at3 .ensures) in let second = subst (After _ _) (c .before .before .before .before .before .before .before .before .before .second .given .1) (c .before .before .before .before .before .before .before .before .before .before .before .field-at2 .ensures) in let first = subst (After _ _) (c .before .before .before .before .before .before .before .before .before .before .before .before .before .first .given .1) (c .before .before .before .before .before .before .before .before .before .before .before .before .before .before .before .field-at .ensures) in (omega arith, omega arith)))
+    (λ c. let fourth = subst (After _ _) (c .before .fourth .given .1) (c .before .before .before .field-at4 .ensures .1) in let third = subst (After _ _) (c .before .before .before .before .before .third .given .1) (c .before .before .before .before .before .before .before .field-at3 .ensures .1) in let second = subst (After _ _) (c .before .before .before .before .before .before .before .before .before .second .given .1) (c .before .before .before .before .before .before .before .before .before .before .before .field-at2 .ensures .1) in let first = subst (After _ _) (c .before .before .before .before .before .before .before .before .before .before .before .before .before .first .given .1) (c .before .before .before .before .before .before .before .before .before .before .before .before .before .before .before .field-at .ensures .1) in (omega arith, omega arith)))

@@ -1,0 +1,2 @@
+-- Laws of fields.
+mod Fields
