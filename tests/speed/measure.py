@@ -12,7 +12,7 @@ sys.dont_write_bytecode = True
 from shapes import SHAPES
 
 LENGTHS = (1024, 8192, 65536)
-ENOUGH, ROUNDS, RUNS = 0.02, 5, 3  # seconds of one run; rounds over all; runs in each
+ENOUGH, LONG, ROUNDS, RUNS = 0.02, 2, 5, 3  # seconds of one run, at least; of one that is not made again; rounds over all; runs in each
 
 
 def run(command, times, script):
@@ -27,15 +27,22 @@ class Cell:
 
     def __init__(self, command, script):
         self.command, self.script, self.times = command, script, 1
-        self.idle, _ = run(command, 0, script)
-        self.best, self.count = run(command, 1, script)
+        self.idle = min(run(command, 0, script)[0] for _ in range(RUNS))
+        self.best, self.count = self.sure()
         while self.best - self.idle < ENOUGH:
             self.times *= 4
-            self.best, sum_ = run(command, self.times, script)
+            self.best, sum_ = self.sure()
             self.count = sum_ // self.times
 
+    def sure(self):
+        """One run, and where it seems long enough others, since a run may have been disturbed."""
+        best, sum_ = run(self.command, self.times, self.script)
+        for _ in range(RUNS if ENOUGH < best < LONG else 0):
+            best = min(best, run(self.command, self.times, self.script)[0])
+        return best, sum_
+
     def again(self):
-        for _ in range(RUNS if self.best < 10 * ENOUGH else 0):
+        for _ in range(RUNS if self.best < LONG / 10 else 0):
             self.idle = min(self.idle, run(self.command, 0, self.script)[0])
             self.best = min(self.best, run(self.command, self.times, self.script)[0])
 

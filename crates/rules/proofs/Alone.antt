@@ -1,11 +1,11 @@
 -- WITHIN A TOKEN, CONSTRUCTORS IS TRIED IN VAIN AT MOST ONCE: what is tried before it fails at its first byte, or reads the rest of the token first,
 -- which ends at the same place wherever the reading of it begins; and what follows differs in the records alone that it adds.
-use mathlib.Core.Path.{_≡_, refl, sym, ap, _∙_}
-use Prim.Native.Nat.{ℕ, suc, _+_, _≤_, _<_}
+use mathlib.Core.Path.{_≡_, refl, sym, _∙_}
+use Prim.Native.Nat.{ℕ, suc, _+_, _≤_}
 use native.Mathlib.Omega.{arith}
 use borrow.Author.Tests.{ne-eqb}
 use mathlib.Core.List.{List, [], _∷_}
-use mathlib.Core.Bool.{Bool, true, false}
+use mathlib.Core.Bool.{Bool, true}
 use lib.ListN.{drop}
 use Rattle.rules.specs.Text.{ascii, among, begins, run}
 use Rattle.rules.specs.Rule.{Held, got, fail, Rule, _>>=_, _>>_, if_then_else_, _or-else_, repeat-till, add, starts, tag, word, take-while, span}
@@ -16,7 +16,6 @@ use Rattle.rules.specs.Assignments.{compound, plain, target, assignment-
 use Rattle.rules.specs.Contents.{sort, sorted-pattern, plain-pattern, pattern, matcher-pattern, keep, matcher, constructors, contents-provide, contents-assert, assignment, contents-command}
 use Rattle.rules.specs.declared.Token.{Token}
 use Rattle.rules.proofs.Text.{begins-other, run-begins, run-goes}
-use Rattle.rules.proofs.Rule.{then-got, then-fail, try-fail}
 use Rattle.rules.proofs.Blind.{Blind, _seen-by_, perhaps-blind, if-blind, _or-blind_, give-blind, opt-blind, repeat-blind, add-blind, tag-blind, not-tag-blind, size-blind, take-while-blind}
 use Rattle.rules.proofs.Independent.{_then-blind_, skip-blind, signed-blind, two-blind}
 use Rattle.rules.proofs.Like.{Like, blind-like, _then-like_, _or-like_, add-adds, if-adds, adds-like, keyword-like, fails-like}

@@ -1,6 +1,6 @@
 -- TWO RULES ARE ALIKE if they answer alike at each place, but for the records held: each combinator keeps this, by cases on what its first parts
 -- answer. So a rule that fails shows that one which differs from it in the records it adds fails too.
-use mathlib.Core.Path.{_≡_, refl, sym, ap, subst, _∙_}
+use mathlib.Core.Path.{_≡_, refl, sym, ap, _∙_}
 use Prim.Native.Nat.{ℕ}
 use mathlib.Core.List.{List}
 use mathlib.Core.Bool.{Bool, true, false}

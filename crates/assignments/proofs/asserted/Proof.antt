@@ -6,7 +6,7 @@ use Rattle.rules.specs.Expressions.{expression, assert}
 use Rattle.rules.proofs.Expressions.{expression-pays, assert-message-pays, assert-pays}
 use Rattle.lex.specs.Contract.{read, taken}
 use Rattle.lex.specs.declared.Cursor.{Cursor}
-use Rattle.lex.proofs.Lexes.{known, given, here-at}
+use Rattle.lex.proofs.Lexes.{known, here-at}
 use Rattle.tape.specs.Contract.{stepped}
 use Rattle.tape.proofs.Runs.{known-read, runs, added}
 use Rattle.tape.proofs.Way.{Way, enter, bytes, earning, called, can-push, lost-here, ends-here, halts, not-stepped, as-it-is}

@@ -3,7 +3,6 @@ use mathlib.Core.Path.{refl, _∙_}
 use Prim.Native.Nat.{ℕ}
 use mathlib.Core.List.{List}
 use Rattle.rules.specs.Assignments as rule
-use Rattle.lex.specs.Contract.{taken}
 use Rattle.lex.specs.declared.Cursor.{Cursor}
 use Rattle.tape.proofs.Runs.{added}
 use Rattle.tape.proofs.Way.{Short, enter-short, can-push, ends-here, where-so, where-not}

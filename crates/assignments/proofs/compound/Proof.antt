@@ -2,7 +2,7 @@
 use mathlib.Core.Path.{sym}
 use borrow.Author.Needs.{needs}
 use Rattle.rules.specs.Assignments.{compound}
-use Rattle.lex.proofs.Lexes.{known, first, second, given}
+use Rattle.lex.proofs.Lexes.{known, first, second}
 use Rattle.operators.specs.Answers.{operated}
 use Rattle.assignments.proofs.compound.Statement.{statement}
 use Rattle.assignments.proofs.compound.Tie as tie

@@ -11,7 +11,7 @@ use Rattle.rules.proofs.Expressions.{expression-pays}
 use Rattle.rules.proofs.Commands.{braced-pays}
 use Rattle.lex.specs.Contract.{read}
 use Rattle.lex.specs.declared.Cursor.{Cursor}
-use Rattle.lex.proofs.Lexes.{known, given}
+use Rattle.lex.proofs.Lexes.{known}
 use Rattle.tape.specs.Contract.{counted}
 use Rattle.tape.proofs.Runs.{known-read, runs, added}
 use Rattle.tape.proofs.Way.{Way, enter, bytes, earning, called, can-push, lost-here, ends-here, halts, not-counted}

@@ -1,5 +1,4 @@
 -- By the command.
-use Rattle.lex.proofs.Lexes.{given}
 use borrow.Author.Needs.{needs}
 use Rattle.commands.proofs.item.Statement.{statement}
 use Rattle.commands.proofs.item.Tie as tie

@@ -5,14 +5,14 @@ use native.Mathlib.Omega.{arith}
 use mathlib.Core.List.{List}
 use Rattle.rules.specs.Keywords.{keyword-of, numbered, keywords}
 use Rattle.rules.specs.Text.{same}
-use Rattle.rules.specs.Expressions.{expression, sign}
+use Rattle.rules.specs.Expressions.{expression}
 use Rattle.rules.specs.Contents as rule
 use Rattle.rules.proofs.Bytes.{token-pays}
 use Rattle.rules.proofs.Expressions.{expression-pays}
 use Rattle.rules.proofs.Commands.{assignment-op-pays, expand-costs, assigned-costs, assignment-pays}
 use Rattle.lex.specs.Contract.{read, taken}
 use Rattle.lex.specs.declared.Cursor.{Cursor}
-use Rattle.lex.proofs.Lexes.{known, given}
+use Rattle.lex.proofs.Lexes.{known}
 use Rattle.lex.proofs.Name.{keyed-token}
 use Rattle.operators.specs.Answers.{operated}
 use Rattle.tape.specs.Contract.{stepped}

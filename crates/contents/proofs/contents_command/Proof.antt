@@ -8,7 +8,6 @@ use Rattle.rules.proofs.Expressions.{expression-pays}
 use Rattle.rules.proofs.Commands.{contents-command-pays}
 use Rattle.rules.proofs.Independent.{expression-blind}
 use Rattle.lex.specs.declared.Cursor.{Cursor}
-use Rattle.lex.proofs.Lexes.{given}
 use Rattle.tape.specs.Contract.{stepped, counted}
 use Rattle.tape.proofs.Runs.{known-read, runs}
 use Rattle.tape.proofs.Way.{Way, enter, ends-here, after-try, tried-here}

@@ -8,7 +8,7 @@ use Rattle.rules.proofs.Expressions.{expression-pays}
 use Rattle.rules.proofs.Commands.{contents-provide-pays}
 use Rattle.lex.specs.Contract.{read}
 use Rattle.lex.specs.declared.Cursor.{Cursor}
-use Rattle.lex.proofs.Lexes.{known, given}
+use Rattle.lex.proofs.Lexes.{known}
 use Rattle.operators.specs.Answers.{operated}
 use Rattle.tape.proofs.Runs.{runs}
 use Rattle.tape.proofs.Way.{Way, enter, bytes, lost-here, ends-here}

@@ -8,7 +8,6 @@ use Rattle.rules.specs.Contents as rule
 use Rattle.rules.proofs.Pays.{_or-it_}
 use Rattle.rules.proofs.Commands.{matcher-pattern-pays, keep-pays}
 use Rattle.lex.specs.declared.Cursor.{Cursor}
-use Rattle.lex.proofs.Lexes.{given}
 use Rattle.tape.specs.Contract.{stepped}
 use Rattle.tape.proofs.Runs.{known-read, runs}
 use Rattle.tape.proofs.Way.{Way, enter, ends-here, after-try, tried-here}

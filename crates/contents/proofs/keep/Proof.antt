@@ -3,12 +3,11 @@ use mathlib.Core.Path.{refl, _∙_}
 use Prim.Native.Nat.{ℕ}
 use native.Mathlib.Omega.{arith}
 use mathlib.Core.List.{List}
-use Rattle.rules.specs.Rule.{word}
 use Rattle.rules.specs.Contents as rule
 use Rattle.rules.proofs.Commands.{keep-pays}
 use Rattle.lex.specs.Contract.{read}
 use Rattle.lex.specs.declared.Cursor.{Cursor}
-use Rattle.lex.proofs.Lexes.{known, given}
+use Rattle.lex.proofs.Lexes.{known}
 use Rattle.tape.specs.Contract.{stepped}
 use Rattle.tape.proofs.Runs.{known-read, runs, as-bytes, as-lost}
 use Rattle.tape.proofs.Way.{Way, enter, bytes, called, lost-here, ends-here, halts, not-stepped, as-it-is}

@@ -1,7 +1,7 @@
 -- The bytes of a token go to where they are taken.
 use native.Mathlib.Omega.{arith}
 use Rattle.lex.specs.Contract.{taken}
-use Rattle.lex.proofs.Lexes.{known, given}
+use Rattle.lex.proofs.Lexes.{known}
 use Rattle.tape.specs.Contract.{stepped}
 use borrow.Author.Needs.{needs}
 use Rattle.contents.proofs.Alone.{telling, within, reach}

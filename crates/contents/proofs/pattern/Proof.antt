@@ -6,7 +6,7 @@ use Rattle.rules.specs.Rule.{perhaps}
 use Rattle.rules.specs.Contents as rule
 use Rattle.rules.proofs.Commands.{pattern-pays}
 use Rattle.lex.specs.declared.Cursor.{Cursor}
-use Rattle.lex.proofs.Lexes.{known, given, opt-some, opt-none}
+use Rattle.lex.proofs.Lexes.{known, opt-some, opt-none}
 use Rattle.operators.specs.Answers.{operated}
 use Rattle.tape.proofs.Runs.{runs}
 use Rattle.tape.proofs.Way.{Way, enter, bytes, ends-here}

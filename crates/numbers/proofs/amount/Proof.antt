@@ -6,7 +6,6 @@ use borrow.Author.Needs.{needs}
 use lib.ListN.{length, drop, getD}
 use Rattle.rules.specs.Numbers.{digit as digit-of, written}
 use Rattle.rules.proofs.Numbers.{digit-small, written-end, written-on, written-grows}
-use Rattle.lex.specs.Contract.{taken}
 use Rattle.numbers.proofs.Fitting.{fits, passes}
 use Rattle.numbers.proofs.amount.Statement.{statement}
 use Rattle.numbers.proofs.amount.Tie as tie

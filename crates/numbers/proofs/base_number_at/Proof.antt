@@ -3,7 +3,7 @@ use borrow.Author.Needs.{needs}
 use Rattle.rules.specs.Numbers.{base-number}
 use Rattle.lex.specs.Contract.{read}
 use Rattle.numbers.specs.Answers.{valued}
-use Rattle.lex.proofs.Lexes.{known, then-on, stop, first, second, given}
+use Rattle.lex.proofs.Lexes.{known, then-on, stop, first, second}
 use Rattle.numbers.proofs.base_number_at.Statement.{statement}
 use Rattle.numbers.proofs.base_number_at.Tie as tie
 

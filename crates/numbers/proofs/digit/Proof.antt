@@ -4,7 +4,6 @@ use native.Mathlib.Omega.{arith}
 use borrow.Author.Needs.{needs}
 use Rattle.rules.specs.Numbers.{digit as digit-of}
 use Rattle.rules.proofs.Numbers.{between-true}
-use Rattle.lex.specs.Contract.{taken}
 use Rattle.numbers.proofs.digit.Statement.{statement}
 use Rattle.numbers.proofs.digit.Tie as tie
 

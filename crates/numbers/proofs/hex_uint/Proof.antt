@@ -8,7 +8,7 @@ use Rattle.rules.specs.Numbers.{hex-uint}
 use Rattle.rules.specs.Bytes.{is-hex}
 use Rattle.rules.proofs.Numbers.{hex-fits}
 use Rattle.lex.specs.Contract.{taken}
-use Rattle.lex.proofs.Lexes.{known, then-on, stop, chosen, passed-over, given, given-as, refused, named}
+use Rattle.lex.proofs.Lexes.{known, then-on, stop, chosen, passed-over, given-as, refused, named}
 use Rattle.numbers.proofs.Fitting.{fitting, passing}
 use Rattle.numbers.proofs.hex_uint.Statement.{statement}
 use Rattle.numbers.proofs.hex_uint.Tie as tie

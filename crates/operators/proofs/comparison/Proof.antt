@@ -1,7 +1,7 @@
 -- The pairs are tried in their order.
 use borrow.Author.Needs.{needs}
 use Rattle.rules.specs.Expressions.{comparison as comparison-rule}
-use Rattle.lex.proofs.Lexes.{known, first, second, given}
+use Rattle.lex.proofs.Lexes.{known, first, second}
 use Rattle.operators.specs.Answers.{operated}
 use Rattle.operators.proofs.comparison.Statement.{statement}
 use Rattle.operators.proofs.comparison.Tie as tie

@@ -1,6 +1,5 @@
 -- Every row but one may have an operator for each byte.
 use borrow.Author.Needs.{needs}
-use Rattle.lex.proofs.Lexes.{given}
 use Rattle.operators.proofs.Rows.{not-once}
 use Rattle.operators.proofs.most_of.Statement.{statement}
 use Rattle.operators.proofs.most_of.Tie as tie

@@ -1,6 +1,6 @@
 -- The signs are tried in their order.
 use borrow.Author.Needs.{needs}
-use Rattle.lex.proofs.Lexes.{known, first, second, given}
+use Rattle.lex.proofs.Lexes.{known, first, second}
 use Rattle.operators.specs.Answers.{operated}
 use Rattle.operators.proofs.multiplicative.Statement.{statement}
 use Rattle.operators.proofs.multiplicative.Tie as tie

@@ -1,6 +1,5 @@
 -- In each arm the row is known, and its operators were tried.
 use borrow.Author.Needs.{needs}
-use Rattle.lex.proofs.Lexes.{given}
 use Rattle.operators.proofs.operator.Statement.{statement}
 use Rattle.operators.proofs.operator.Tie as tie
 

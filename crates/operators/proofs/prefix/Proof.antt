@@ -1,7 +1,7 @@
 -- The signs are tried in their order.
 use borrow.Author.Needs.{needs}
 use Rattle.rules.specs.Expressions.{prefix as prefix-rule}
-use Rattle.lex.proofs.Lexes.{known, first, second, given}
+use Rattle.lex.proofs.Lexes.{known, first, second}
 use Rattle.operators.specs.Answers.{operated}
 use Rattle.operators.proofs.prefix.Statement.{statement}
 use Rattle.operators.proofs.prefix.Tie as tie

@@ -1,6 +1,5 @@
 -- Each mode has its rows.
 use borrow.Author.Needs.{needs}
-use Rattle.lex.proofs.Lexes.{given}
 use Rattle.operators.proofs.row_at.Statement.{statement}
 use Rattle.operators.proofs.row_at.Tie as tie
 

@@ -1,6 +1,6 @@
 -- The second is tried where the first fails.
 use borrow.Author.Needs.{needs}
-use Rattle.lex.proofs.Lexes.{known, first, second, given}
+use Rattle.lex.proofs.Lexes.{known, first, second}
 use Rattle.operators.specs.Answers.{operated}
 use Rattle.operators.proofs.sign_of_two.Statement.{statement}
 use Rattle.operators.proofs.sign_of_two.Tie as tie

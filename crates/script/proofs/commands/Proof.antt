@@ -1,11 +1,10 @@
 -- The loop is the rule's, and so is the place of a refusal: see Whole.
 use mathlib.Core.Path.{_∙_}
 use native.Mathlib.Omega.{arith}
-use Rattle.lex.specs.Contract.{read, taken}
-use Rattle.lex.proofs.Lexes.{known, given}
+use Rattle.lex.specs.Contract.{read}
+use Rattle.lex.proofs.Lexes.{known}
 use Rattle.tape.specs.Contract.{stepped}
 use Rattle.tape.proofs.Runs.{known-read}
-use Rattle.rules.specs.Commands.{command}
 use Rattle.script.proofs.Whole.{Whole, begun, ended, stopped, sunk-here, on, spent-here, lost-opening, fits, ready}
 use borrow.Author.Needs.{needs}
 use Rattle.script.proofs.commands.Statement.{statement}

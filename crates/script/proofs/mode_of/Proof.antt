@@ -1,6 +1,5 @@
 -- By the number.
 use borrow.Author.Tests.{ne-eqb}
-use Rattle.lex.specs.Contract.{taken}
 use Rattle.script.proofs.mode_of.Statement.{statement}
 use Rattle.script.proofs.mode_of.Tie as tie
 

@@ -1,5 +1,4 @@
 -- The last record is read where it stands on the tape.
-use Rattle.lex.specs.Contract.{taken}
 use Rattle.script.proofs.Last.{met-before, no-record, another, version}
 use borrow.Author.Needs.{needs}
 use Rattle.script.proofs.noted.Statement.{statement}

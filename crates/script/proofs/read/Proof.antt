@@ -1,7 +1,5 @@
 -- The tests, and then the rules: see Answered.
 use mathlib.Core.Path.{_∙_}
-use Rattle.lex.specs.Contract.{taken}
-use Rattle.script.specs.Answers.{settled}
 use Rattle.script.proofs.Answered.{unknown-mode, too-long, too-short, settling, followed}
 use borrow.Author.Needs.{needs}
 use Rattle.script.proofs.read.Statement.{statement}

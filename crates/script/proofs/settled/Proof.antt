@@ -2,7 +2,6 @@
 use mathlib.Core.Path.{sym, ap, _∙_}
 use Prim.Native.Nat.{_-_}
 use lib.ListN.{length}
-use Rattle.lex.proofs.Lexes.{given}
 use Rattle.script.specs.Answers.{Settling, settled, stays}
 use mathlib.Core.Path.{subst}
 use mathlib.Core.List.{_++_}

@@ -1,6 +1,5 @@
 -- By the answer.
 use mathlib.Core.Path.{sym, ap, _∙_}
-use Rattle.lex.proofs.Lexes.{given}
 use Rattle.script.proofs.Answered.{bodiless}
 use Rattle.script.specs.Call.{said}
 use Rattle.rules.specs.Text.{part-of}

@@ -2,14 +2,13 @@
 use mathlib.Core.Path.{refl, _∙_}
 use Prim.Native.Nat.{ℕ}
 use mathlib.Core.List.{List}
-use Rattle.rules.specs.Rule.{word}
 use Rattle.rules.specs.Expressions.{expression}
 use Rattle.rules.specs.Sections as rule
 use Rattle.rules.proofs.Expressions.{expression-pays}
 use Rattle.rules.proofs.Commands.{alignment-pays}
 use Rattle.lex.specs.Contract.{read}
 use Rattle.lex.specs.declared.Cursor.{Cursor}
-use Rattle.lex.proofs.Lexes.{known, given}
+use Rattle.lex.proofs.Lexes.{known}
 use Rattle.tape.proofs.Runs.{runs}
 use Rattle.tape.proofs.Way.{Way, enter, bytes, lost-here, ends-here}
 use borrow.Author.Needs.{needs}

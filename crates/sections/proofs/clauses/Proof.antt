@@ -9,10 +9,9 @@ use Rattle.rules.specs.Expressions.{expression}
 use Rattle.rules.specs.Sections as rule
 use Rattle.rules.proofs.Expressions.{expression-pays}
 use Rattle.rules.proofs.Commands.{clauses-pays}
-use Rattle.lex.specs.Contract.{taken}
 use Rattle.lex.specs.declared.Cursor.{Cursor}
 use Rattle.lex.proofs.Lexes.{given, refused, asked, sized}
-use Rattle.tape.specs.Contract.{Reads, stepped, counted}
+use Rattle.tape.specs.Contract.{Reads, stepped}
 use Rattle.tape.proofs.Runs.{known-read, runs, as-bytes, as-lost}
 use Rattle.tape.proofs.Way.{Way, Loop, enter, bytes, called, ends-here, halts, not-stepped, where-so, where-not, turn, spent}
 use borrow.Author.Needs.{needs}

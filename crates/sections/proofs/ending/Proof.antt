@@ -7,7 +7,7 @@ use Rattle.rules.specs.Expressions.{expression}
 use Rattle.rules.specs.Sections as rule
 use Rattle.lex.specs.Contract.{taken}
 use Rattle.lex.specs.declared.Cursor.{Cursor}
-use Rattle.lex.proofs.Lexes.{known, given}
+use Rattle.lex.proofs.Lexes.{known}
 use Rattle.tape.specs.Contract.{stepped}
 use Rattle.tape.proofs.Runs.{known-read, runs, added}
 use Rattle.tape.proofs.Way.{Short, enter-short, bytes, called, can-push, lost-here, ends-here, halts, not-stepped, as-it-is, where-so, where-not}

@@ -6,15 +6,15 @@ use native.Mathlib.Numerals.{add-one}
 use mathlib.Core.List.{List}
 use lib.ListN.{length}
 use Rattle.rules.specs.Rule.{perhaps}
-use Rattle.rules.specs.Expressions.{expression, sign}
+use Rattle.rules.specs.Expressions.{expression}
 use Rattle.rules.specs.Sections as rule
 use Rattle.rules.proofs.Expressions.{expression-pays}
 use Rattle.rules.proofs.Commands.{ending-sign-pays, ending-costs, endings-pays}
-use Rattle.lex.specs.Contract.{read, taken}
+use Rattle.lex.specs.Contract.{read}
 use Rattle.lex.specs.declared.Cursor.{Cursor}
 use Rattle.lex.proofs.Lexes.{known, given, refused, sized, opt-none}
 use Rattle.operators.specs.Answers.{operated}
-use Rattle.tape.specs.Contract.{Reads, stepped, counted}
+use Rattle.tape.specs.Contract.{Reads, stepped}
 use Rattle.tape.proofs.Runs.{known-run, as-bytes, as-lost}
 use Rattle.tape.proofs.Way.{Way, Loop, enter, bytes, earned-opt, spending, lost-here, ends-here, halts, not-stepped, turn, spent}
 use borrow.Author.Needs.{needs}

@@ -9,7 +9,6 @@ use Rattle.rules.specs.Expressions.{expression}
 use Rattle.rules.specs.Sections as rule
 use Rattle.rules.proofs.Expressions.{expression-pays}
 use Rattle.rules.proofs.Commands.{heading-part-pays, heading-pays}
-use Rattle.lex.specs.Contract.{taken}
 use Rattle.lex.specs.declared.Cursor.{Cursor}
 use Rattle.lex.proofs.Lexes.{given, refused, asked, sized}
 use Rattle.tape.specs.Contract.{Reads}

@@ -1,12 +1,10 @@
 -- Each way through the code is a way through the rule.
 use mathlib.Core.Path.{refl, sym, _∙_}
 use borrow.Author.Tests.{eq-eqb, ne-eqb}
-use Rattle.rules.specs.Rule.{word}
-use Rattle.rules.specs.Keywords.{keyword-of}
 use Rattle.rules.specs.Sections as rule
 use Rattle.lex.specs.Contract.{Lexes, read, taken}
 use Rattle.lex.specs.declared.Cursor.{Cursor}
-use Rattle.lex.proofs.Lexes.{known, given, given-as, refused}
+use Rattle.lex.proofs.Lexes.{known, given-as, refused}
 use Rattle.lex.proofs.Name.{keyed-token}
 use Rattle.lex.proofs.Way.{Trail, set-out, past, missed, arrived, where-so, where-not}
 use borrow.Author.Needs.{needs}

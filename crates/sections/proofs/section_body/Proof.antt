@@ -9,7 +9,7 @@ use Rattle.rules.specs.Sections as rule
 use Rattle.rules.proofs.Bytes.{tag-skip-earns}
 use Rattle.lex.specs.Contract.{read}
 use Rattle.lex.specs.declared.Cursor.{Cursor}
-use Rattle.lex.proofs.Lexes.{known, given}
+use Rattle.lex.proofs.Lexes.{known}
 use Rattle.tape.specs.Contract.{counted}
 use Rattle.tape.proofs.Runs.{known-read, runs}
 use Rattle.tape.proofs.Way.{Short, enter-short, bytes, earning, called, lost-here, ends-here, halts, not-counted}

@@ -13,7 +13,7 @@ use Rattle.rules.proofs.Expressions.{expression-pays}
 use Rattle.rules.proofs.Commands.{section-command-pays}
 use Rattle.lex.specs.Contract.{read, taken}
 use Rattle.lex.specs.declared.Cursor.{Cursor}
-use Rattle.lex.proofs.Lexes.{known, given}
+use Rattle.lex.proofs.Lexes.{known}
 use Rattle.lex.proofs.Name.{keyed-token}
 use Rattle.tape.proofs.Runs.{runs}
 use Rattle.tape.proofs.Way.{Way, enter, bytes, earning, lost-here, ends-here, where-so, where-not}

@@ -3,10 +3,9 @@ use mathlib.Core.Path.{refl, _∙_}
 use Prim.Native.Nat.{ℕ}
 use mathlib.Core.List.{List}
 use borrow.Author.Tests.{eq-eqb, ne-eqb}
-use Rattle.rules.specs.Rule.{word}
 use Rattle.rules.specs.Expressions.{expression}
 use Rattle.rules.specs.Commands as rule
-use Rattle.lex.specs.Contract.{read, taken}
+use Rattle.lex.specs.Contract.{read}
 use Rattle.lex.specs.declared.Cursor.{Cursor}
 use Rattle.lex.proofs.Lexes.{known, given}
 use Rattle.tape.specs.Contract.{stepped}

@@ -1,6 +1,5 @@
 -- By cases on the two words.
 use Rattle.rules.specs.Commands as rule
-use Rattle.lex.specs.Contract.{taken}
 use Rattle.segments.proofs.headers.Statement.{statement}
 use Rattle.segments.proofs.headers.Tie as tie
 

@@ -6,7 +6,6 @@ use Rattle.rules.specs.Expressions.{expression}
 use Rattle.rules.specs.Commands as rule
 use Rattle.rules.proofs.Expressions.{expression-pays}
 use Rattle.rules.proofs.Commands.{segment-kind-pays}
-use Rattle.lex.specs.Contract.{taken}
 use Rattle.lex.specs.declared.Cursor.{Cursor}
 use Rattle.lex.proofs.Lexes.{asked}
 use Rattle.tape.proofs.Runs.{runs}

@@ -3,13 +3,12 @@ use mathlib.Core.Path.{refl, sym, ap, _∙_}
 use Prim.Native.Nat.{ℕ}
 use mathlib.Core.List.{List}
 use Rattle.rules.specs.Rule.{perhaps}
-use Rattle.rules.specs.Keywords.{keyword-of}
 use Rattle.rules.specs.Commands as rule
 use Rattle.rules.proofs.Bytes.{token-pays}
 use Rattle.rules.proofs.Commands.{segment-number-pays}
 use Rattle.lex.specs.Contract.{taken}
 use Rattle.lex.specs.declared.Cursor.{Cursor}
-use Rattle.lex.proofs.Lexes.{known, given, refused}
+use Rattle.lex.proofs.Lexes.{known, refused}
 use Rattle.lex.proofs.Name.{keyed-token}
 use Rattle.tape.proofs.Runs.{added, as-lost}
 use Rattle.tape.proofs.Way.{Way, enter, bytes, earning, can-push, lost-here, ends-here}

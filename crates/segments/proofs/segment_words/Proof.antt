@@ -10,7 +10,7 @@ use Rattle.rules.specs.Expressions.{expression}
 use Rattle.rules.specs.Commands as rule
 use Rattle.rules.proofs.Expressions.{expression-pays}
 use Rattle.rules.proofs.Commands.{flag-clause-costs, segment-words-pays, segment-word-pays}
-use Rattle.lex.specs.Contract.{read, taken}
+use Rattle.lex.specs.Contract.{read}
 use Rattle.lex.specs.declared.Cursor.{Cursor}
 use Rattle.lex.proofs.Lexes.{known, given, refused, sized, opt-none}
 use Rattle.operators.specs.Answers.{operated}

@@ -1,6 +1,5 @@
 -- By cases on the answer.
 use mathlib.Core.Path.{sym, ap}
-use Rattle.lex.proofs.Lexes.{given}
 use Rattle.tape.specs.Contract.{stepped, valued}
 use borrow.Author.Needs.{needs}
 use Rattle.segments.proofs.with_words.Statement.{statement}

@@ -5,9 +5,9 @@ use native.Mathlib.Omega.{arith}
 use mathlib.Core.List.{List}
 use Rattle.rules.specs.Commands as rule
 use Rattle.rules.proofs.Commands.{group-pays}
-use Rattle.lex.specs.Contract.{read, taken}
+use Rattle.lex.specs.Contract.{read}
 use Rattle.lex.specs.declared.Cursor.{Cursor}
-use Rattle.lex.proofs.Lexes.{known, given}
+use Rattle.lex.proofs.Lexes.{known}
 use Rattle.tape.proofs.Runs.{runs}
 use Rattle.tape.proofs.Way.{Way, enter, bytes, lost-here, ends-here}
 use Rattle.tape.proofs.Way.{same-as}

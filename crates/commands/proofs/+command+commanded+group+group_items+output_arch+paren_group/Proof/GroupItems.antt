@@ -9,10 +9,10 @@ use Rattle.rules.specs.Rule.{if_then_else_, repeating, repeat-till, word}
 use Rattle.rules.specs.Commands as rule
 use Rattle.rules.proofs.Pays.{repeats, over}
 use Rattle.rules.proofs.Commands.{command-pays}
-use Rattle.lex.specs.Contract.{read, taken}
+use Rattle.lex.specs.Contract.{read}
 use Rattle.lex.specs.declared.Cursor.{Cursor}
 use Rattle.lex.proofs.Lexes.{known, given, refused, sized, opt-some, opt-none}
-use Rattle.tape.specs.Contract.{Reads, stepped, counted}
+use Rattle.tape.specs.Contract.{Reads, stepped}
 use Rattle.tape.proofs.Runs.{known-read, runs, as-bytes, as-lost}
 use Rattle.tape.proofs.Way.{Way, Loop, enter, bytes, called, ends-here, halts, not-stepped, turn, spent}
 use Rattle.commands.proofs.+command+commanded+group+group_items+output_arch+paren_group.Proof.Common.{group-items-at, command-below}

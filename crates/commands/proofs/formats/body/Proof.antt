@@ -3,7 +3,6 @@ use mathlib.Core.Path.{sym, _∙_}
 use Prim.Native.Nat.{_-_}
 use native.Mathlib.Omega.{arith}
 use lib.ListN.{length}
-use Rattle.lex.specs.Contract.{taken}
 use Rattle.commands.proofs.Body.{Seeking, begun, closed, turned, missing}
 use borrow.Author.Needs.{needs}
 use Rattle.commands.proofs.formats.body.Statement.{statement}

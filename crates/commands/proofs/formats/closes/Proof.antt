@@ -1,6 +1,5 @@
 -- By the braces that are open.
 use borrow.Author.Tests.{ne-eqb}
-use Rattle.lex.specs.Contract.{taken}
 use Rattle.commands.proofs.formats.closes.Statement.{statement}
 use Rattle.commands.proofs.formats.closes.Tie as tie
 

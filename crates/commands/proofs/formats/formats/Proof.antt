@@ -2,13 +2,13 @@
 use mathlib.Core.Path.{refl, _∙_}
 use Prim.Native.Nat.{ℕ}
 use mathlib.Core.List.{List}
-use Rattle.rules.specs.Rule.{if_then_else_, word}
+use Rattle.rules.specs.Rule.{if_then_else_}
 use Rattle.rules.specs.Commands as rule
 use Rattle.rules.proofs.Commands.{formats-pays}
 use Rattle.lex.specs.Contract.{read}
 use Rattle.lex.specs.declared.Cursor.{Cursor}
 use Rattle.lex.proofs.Lexes.{known, given, opt-some, opt-none}
-use Rattle.tape.specs.Contract.{stepped, counted}
+use Rattle.tape.specs.Contract.{stepped}
 use Rattle.tape.proofs.Runs.{known-read, runs, as-bytes}
 use Rattle.tape.proofs.Way.{Way, enter, bytes, called, lost-here, ends-here, halts, not-stepped}
 use borrow.Author.Needs.{needs}

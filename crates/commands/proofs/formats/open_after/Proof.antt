@@ -2,7 +2,6 @@
 use native.Mathlib.Numerals.{add-one}
 use borrow.Author.Tests.{ne-eqb}
 use Rattle.rules.specs.Commands as rule
-use Rattle.lex.specs.Contract.{taken}
 use Rattle.commands.proofs.Body.{opened}
 use borrow.Author.Needs.{needs}
 use Rattle.commands.proofs.formats.open_after.Statement.{statement}

@@ -3,7 +3,7 @@ use Prim.Native.Nat.{_+_, _*_, _≤_}
 use borrow.Author.Needs.{needs}
 use lib.ListN.{length}
 use Rattle.lex.specs.Contract.{read}
-use Rattle.lex.proofs.Lexes.{known, given, earned}
+use Rattle.lex.proofs.Lexes.{known, earned}
 use Rattle.tape.proofs.Runs.{met, bytes-then, bytes-stop, added, space}
 use Rattle.ladder.proofs.Closing.{finished-pays, bracket-pays}
 use Rattle.ladder.proofs.parts.finish.Statement.{statement}

@@ -5,7 +5,7 @@ use lib.ListN.{length}
 use Rattle.rules.specs.Expressions.{named as named-rule}
 use Rattle.rules.proofs.Expressions.{named-pays, function-arg-pays}
 use Rattle.lex.specs.Contract.{taken}
-use Rattle.lex.proofs.Lexes.{known, given, earned}
+use Rattle.lex.proofs.Lexes.{known, earned}
 use Rattle.tape.proofs.Runs.{met, bytes-then, bytes-stop, added, space}
 use Rattle.ladder.proofs.parts.named.Statement.{statement}
 use Rattle.ladder.proofs.parts.named.Tie as tie

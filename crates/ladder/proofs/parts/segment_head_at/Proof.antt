@@ -1,6 +1,6 @@
 -- Each way through the code is a way through the rule.
 use mathlib.Core.Path.{refl}
-use Rattle.rules.specs.Expressions.{quoted-segment, segment-head}
+use Rattle.rules.specs.Expressions.{segment-head}
 use Rattle.lex.specs.Contract.{Lexes, read, taken}
 use Rattle.lex.specs.declared.Cursor.{Cursor}
 use Rattle.lex.proofs.Lexes.{known, given}

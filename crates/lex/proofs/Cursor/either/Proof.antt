@@ -1,7 +1,7 @@
 -- The second is tried where the first fails.
 use borrow.Author.Needs.{needs}
 use Rattle.lex.specs.Contract.{read}
-use Rattle.lex.proofs.Lexes.{known, first, second, given}
+use Rattle.lex.proofs.Lexes.{known, first, second}
 use Rattle.lex.proofs.Cursor.either.Statement.{statement}
 use Rattle.lex.proofs.Cursor.either.Tie as tie
 

@@ -3,7 +3,7 @@ use mathlib.Core.Path.{refl}
 use Rattle.rules.specs.Bytes.{opt-tag-skip}
 use Rattle.lex.specs.Contract.{Lexes, read}
 use Rattle.lex.specs.declared.Cursor.{Cursor}
-use Rattle.lex.proofs.Lexes.{known, given, opt-some, opt-none}
+use Rattle.lex.proofs.Lexes.{known, opt-some, opt-none}
 use Rattle.lex.proofs.Way.{Trail, set-out, past, arrived}
 use borrow.Author.Needs.{needs}
 use Rattle.lex.proofs.Cursor.opt_word_skip.Statement.{statement}

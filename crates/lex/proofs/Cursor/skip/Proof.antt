@@ -5,7 +5,7 @@ use borrow.Author.Needs.{needs}
 use lib.ListN.{length}
 use Rattle.lex.specs.Contract.{commented}
 use Rattle.lex.proofs.Skip.{Turned, begun, ended, unended, ahead, turned}
-use Rattle.lex.proofs.Lexes.{known, given}
+use Rattle.lex.proofs.Lexes.{known}
 use Rattle.lex.proofs.Cursor.skip.Statement.{statement}
 use Rattle.lex.proofs.Cursor.skip.Tie as tie
 

@@ -5,8 +5,7 @@ use borrow.Author.Needs.{needs}
 use Rattle.rules.specs.Text.{find as find-in}
 use Rattle.rules.proofs.Text.{find-inside}
 use Rattle.lex.specs.Class.{found}
-use Rattle.lex.specs.Contract.{taken}
-use Rattle.lex.proofs.Lexes.{given, until-lost, until-short, until-read}
+use Rattle.lex.proofs.Lexes.{until-lost, until-short, until-read}
 use Rattle.lex.proofs.Cursor.take_until.Statement.{statement}
 use Rattle.lex.proofs.Cursor.take_until.Tie as tie
 

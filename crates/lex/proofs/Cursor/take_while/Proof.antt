@@ -5,7 +5,6 @@ use borrow.Author.Needs.{needs}
 use Rattle.rules.specs.Text.{run as run-of}
 use Rattle.rules.proofs.Text.{run-inside}
 use Rattle.lex.specs.Class.{has}
-use Rattle.lex.specs.Contract.{taken}
 use Rattle.lex.proofs.Lexes.{run-read, run-none}
 use Rattle.lex.proofs.Cursor.take_while.Statement.{statement}
 use Rattle.lex.proofs.Cursor.take_while.Tie as tie

@@ -3,7 +3,6 @@ use mathlib.Core.Path.{sym, _∙_}
 use native.Mathlib.Omega.{arith}
 use borrow.Author.Needs.{needs}
 use Rattle.rules.proofs.Text.{begins-inside}
-use Rattle.lex.specs.Contract.{taken}
 use Rattle.lex.proofs.Lexes.{tag-read, tag-lost}
 use Rattle.lex.proofs.Cursor.word.Statement.{statement}
 use Rattle.lex.proofs.Cursor.word.Tie as tie

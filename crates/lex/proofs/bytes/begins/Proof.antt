@@ -6,7 +6,6 @@ use borrow.Author.Needs.{needs}
 use lib.ListN.{length, drop}
 use Rattle.rules.specs.Text.{begins as begins-with}
 use Rattle.rules.proofs.Text.{begins-done, begins-short, begins-not, begins-on}
-use Rattle.lex.specs.Contract.{taken}
 use Rattle.lex.proofs.bytes.begins.Statement.{statement}
 use Rattle.lex.proofs.bytes.begins.Tie as tie
 

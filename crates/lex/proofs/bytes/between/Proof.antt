@@ -1,6 +1,5 @@
 -- Each `return` is one of the two tests.
 use borrow.Author.Tests.{le-leb, lt-leb}
-use Rattle.lex.specs.Contract.{taken}
 use Rattle.lex.proofs.bytes.between.Statement.{statement}
 use Rattle.lex.proofs.bytes.between.Tie as tie
 

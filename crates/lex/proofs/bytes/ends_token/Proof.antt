@@ -4,7 +4,6 @@ use borrow.Author.Needs.{needs}
 use Rattle.rules.specs.Text.{ascii}
 use Rattle.rules.proofs.Text.{among-both}
 use Rattle.lex.proofs.Or.{or-first, or-second}
-use Rattle.lex.specs.Contract.{taken}
 use Rattle.lex.proofs.bytes.ends_token.Statement.{statement}
 use Rattle.lex.proofs.bytes.ends_token.Tie as tie
 

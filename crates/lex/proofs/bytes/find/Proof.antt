@@ -7,7 +7,6 @@ use mathlib.Core.Option.{some}
 use lib.ListN.{length, drop}
 use Rattle.rules.specs.Text.{begins as begins-with, find as find-in}
 use Rattle.rules.proofs.Text.{find-end, find-here, find-on, further, further-none, further-on}
-use Rattle.lex.specs.Contract.{taken}
 use Rattle.lex.proofs.bytes.find.Statement.{statement}
 use Rattle.lex.proofs.bytes.find.Tie as tie
 

@@ -8,7 +8,6 @@ use lib.ListN.{length, drop}
 use Rattle.rules.specs.Text.{run as run-of}
 use Rattle.rules.proofs.Text.{run-end, run-stop, run-on}
 use Rattle.lex.specs.Class.{has}
-use Rattle.lex.specs.Contract.{taken}
 use Rattle.lex.proofs.bytes.run.Statement.{statement}
 use Rattle.lex.proofs.bytes.run.Tie as tie
 

@@ -2,7 +2,6 @@
 use mathlib.Core.Path.{sym, _∙_}
 use borrow.Author.Needs.{needs}
 use Rattle.rules.proofs.Text.{same-long, same-other}
-use Rattle.lex.specs.Contract.{taken}
 use Rattle.lex.proofs.bytes.same.Statement.{statement}
 use Rattle.lex.proofs.bytes.same.Tie as tie
 

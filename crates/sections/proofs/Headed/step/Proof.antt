@@ -1,6 +1,5 @@
 -- By cases on the answer.
 use mathlib.Core.Path.{sym, ap}
-use Rattle.lex.proofs.Lexes.{given}
 use Rattle.tape.specs.Contract.{valued}
 use Rattle.sections.specs.Answers.{headed}
 use borrow.Author.Needs.{needs}

@@ -1,6 +1,5 @@
 -- By cases on the answer.
 use mathlib.Core.Path.{sym, ap}
-use Rattle.lex.proofs.Lexes.{given}
 use Rattle.tape.specs.Contract.{valued}
 use Rattle.segments.specs.Answers.{worded}
 use borrow.Author.Needs.{needs}

@@ -2,7 +2,6 @@
 use mathlib.Core.Path.{ap}
 use borrow.Author.Needs.{needs}
 use mathlib.Core.Bool.{not}
-use Rattle.lex.proofs.Lexes.{given}
 use Rattle.lex.proofs.bytes.Class.holds.Statement.{statement}
 use Rattle.lex.proofs.bytes.Class.holds.Tie as tie
 
