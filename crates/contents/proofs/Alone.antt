@@ -1,90 +1,94 @@
--- What is told with an item holds: nothing where 0 is told; within the token of a CONSTRUCTORS that was read by the last try, and after another
--- that was read there, since all tries before it fail in the one place as in the other.
-use mathlib.Core.Path.{_≡_, refl, sym, ap, subst, _∙_}
-use Prim.Native.Nat.{ℕ, _+_, _≤_, _<_}
+-- The item with a number is the item of the rules, and what it tells holds: within the token of a CONSTRUCTORS that was read by the last try, and
+-- after another that was read there, all tries before it fail in the one place as in the other.
+use mathlib.Core.Path.{_≡_, refl, sym, ap, _∙_}
+use Prim.Native.Nat.{ℕ, _≤_, _<_}
 use native.Mathlib.Omega.{arith}
+use borrow.Author.Tests.{ltb-true}
 use mathlib.Core.List.{List}
-use mathlib.Core.Bool.{Bool, true, false, cond}
-use lib.Dec.{eqb}
-use lib.ListN.{length, drop}
-use Rattle.rules.specs.Text.{ascii, begins, run}
-use Rattle.rules.specs.Rule.{Held, Out, got, fail, Rule, holds, _>>=_, tag, take-while, span}
-use Rattle.rules.specs.Bytes.{is-plain, tag-skip}
-use Rattle.rules.specs.Contents.{constructors, matcher, assignment, contents-command}
-use Rattle.rules.specs.declared.Token.{Token}
-use Rattle.rules.proofs.Rule.{not-fail, came}
-use Rattle.rules.proofs.Blind.{Blind, nothing}
+use mathlib.Core.Bool.{Bool, true, false, cond, _&&_}
+use lib.Dec.{ltb}
+use lib.ListN.{drop}
+use Rattle.rules.specs.Text.{ascii, begins}
+use Rattle.rules.specs.Rule.{Held, Out, got, fail, deep, Rule, give, after, otherwise, holds, _>>=_, _>>_, if_then_else_, _or-else_, here, starts}
+use Rattle.rules.specs.Contents.{constructors, matcher, contents-provide, contents-assert, assignment, contents-command}
+use Rattle.rules.proofs.Rule.{not-deep, came}
+use Rattle.rules.proofs.Blind.{Blind}
 use Rattle.rules.proofs.Alone.{alone}
-use Rattle.lex.specs.Contract.{Went, went, lost, sunk, Lexes}
+use Rattle.lex.specs.Contract.{Went, went, lost, sunk}
 use Rattle.lex.specs.declared.Cursor.{Cursor}
-use Rattle.tape.specs.Contract.{Reads, CameTo, valued}
-use Rattle.contents.specs.Alone.{Alone, AloneFrom, Within, Item}
+use Rattle.tape.specs.Contract.{Reads, shown, CameTo, valued}
+use Rattle.contents.specs.Item.{token-end, last-try, untold, told-command, contents-item}
+use Rattle.contents.proofs.Told.{stands, end}
 
-back : (w : Went (Unit {0})) (n : ℕ) → valued tt (valued n w) ≡ w
-back (went a e) n = refl
-back lost n = refl
-back sunk n = refl
+-- from p on, up to n, CONSTRUCTORS alone is read where it stands
+abbrev pub Alone : Rule (Unit {0}) → List ℕ → (p n : ℕ) → Type 0
+Alone expression s p n = (q : ℕ) → p ≤ q → q < n → begins (ascii "CONSTRUCTORS") (drop q s) ≡ true → (h : Held) → contents-command expression .out s q h ≡ constructors .out s q h
 
--- the number told leaves the reading as it is
-pub telling : {rule : Rule (Unit {0})} {s t : List ℕ} {c : Cursor} {w : Went (Unit {0})} {r : Went ℕ} (n : ℕ) {t′ : List ℕ} → r ≡ valued n w → Reads rule s t c w t′ → Reads rule s t c (valued tt r) t′
-telling {rule} {s} {t} {c} {w} n {t′ = t′} e x = subst (λ v. Reads rule s t c v t′) (sym (ap (valued tt) e ∙ back w n)) x
+-- an answer without its number
+abbrev plainly : Out ℕ → Out (Unit {0})
+plainly (got n q g) = got tt q g
+plainly fail = fail
+plainly deep = deep
 
-module _ (expression : Rule (Unit {0})) (s : List ℕ) where
-  none-alone : (w : Went (Unit {0})) {r : Went ℕ} → r ≡ valued 0 w → AloneFrom expression s r
-  none-alone w e = subst (AloneFrom expression s) (sym e) (go w)
+given : (o : Out (Unit {0})) (n : ℕ) → plainly (after o (λ a q g. got n q g)) ≡ o
+given (got a q g) n = refl
+given fail n = refl
+given deep n = refl
+
+tried : (o : Out (Unit {0})) (l : Out ℕ) → plainly (otherwise (after o (λ a q g. got 0 q g)) l) ≡ otherwise o (plainly l)
+tried (got a q g) l = refl
+tried fail l = refl
+tried deep l = refl
+
+module _ {e : Rule (Unit {0})} (x : Blind e) (s : List ℕ) (p : ℕ) (h : Held) where
+  -- it is the item's, and what it tells holds from where it came to
+  abbrev Holds : Out ℕ → Type 0
+  Holds o = (plainly o ≡ contents-command e .out s p h) × ((n q : ℕ) (g : Held) → o ≡ got n q g → p ≤ q → Alone e s q n)
+
+  -- a number is told by the last try alone, and is the end of its token
+  later : (m : Rule (Unit {0})) (k : Rule ℕ) {n q : ℕ} {g : Held} → 0 < n → (untold m or-else k) .out s p h ≡ got n q g → (m .out s p h ≡ fail) × (k .out s p h ≡ got n q g)
+  unfolding _or-else_ _>>=_ give
+  later m k {n} {q} {g} l y = go (m .out s p h) y
     where
-      go : (w : Went (Unit {0})) → AloneFrom expression s (valued 0 w)
-      go (went a d) = λ q l m. absurd (omega arith)
-      go lost = tt
-      go sunk = tt
+      go : (o : Out (Unit {0})) → otherwise (after o (λ a q g. got 0 q g)) (k .out s p h) ≡ got n q g → (o ≡ fail) × (k .out s p h ≡ got n q g)
+      go (got a r i) y = absurd (let z : 0 ≡ n = cc in omega arith)
+      go fail y = (refl, y)
+      go deep y = absurd (not-deep y)
 
-  -- an item of another kind, with which nothing is told
-  pub other-kind : {t : List ℕ} {c : Cursor} (w : Went (Unit {0})) {r : Went ℕ} {t′ : List ℕ} → r ≡ valued 0 w → Reads (contents-command expression) s t c w t′ → Item expression s t c r t′
-  other-kind w e x = (telling 0 e x, none-alone w e)
+  last : {n q : ℕ} {g : Held} → last-try .out s p h ≡ got n q g → (begins (ascii "CONSTRUCTORS") (drop p s) ≡ true) × (end s p ≡ n)
+  unfolding last-try token-end _>>=_ give
+  last y = let i = came (constructors .out s p h) _ y in (stands s p h (i .from), cc)
 
-  pub still-alone : (c : Cursor) (w : Went (Unit {0})) {r : Went ℕ} {n : ℕ} → r ≡ valued n w → CameTo s c w → Alone expression s (c .at) n → AloneFrom expression s r
-  still-alone c w {n = n} e x y = subst (AloneFrom expression s) (sym e) (go w x)
+  tells : (n q : ℕ) (g : Held) → told-command e .out s p h ≡ got n q g → p ≤ q → Alone e s q n
+  unfolding told-command
+  tells n q g y u r l m there k =
+      let third = later matcher _ (omega arith) (later (contents-assert e) _ (omega arith) (later (contents-provide e) _ (omega arith) y .1) .1) in
+      let fourth = later (assignment e) _ (omega arith) (third .1) in
+      let i = last (fourth .1) in
+      alone x s p r h h k (i .0) (third .0) (fourth .0) (omega arith) (omega (arith, i .1)) there
+
+  tries : Holds (told-command e .out s p h)
+  unfolding told-command last-try token-end contents-command _or-else_ _>>=_ give
+  tries = (rw (tried, tried, tried, tried, given (constructors .out s p h) (end s p)), tells)
+
+  item : (n : ℕ) → Alone e s p n → Holds (contents-item e n .out s p h)
+  unfolding contents-item here starts _>>=_ if_then_else_ give
+  item n y = go (ltb p n) (begins (ascii "CONSTRUCTORS") (drop p s)) refl refl
     where
-      go : (w : Went (Unit {0})) → CameTo s c w → AloneFrom expression s (valued n w)
-      go (went a d) z = λ q l m. y q (let i = z .on in omega arith) m
-      go lost z = tt
-      go sunk z = tt
+      go : (a b : Bool) → ltb p n ≡ a → begins (ascii "CONSTRUCTORS") (drop p s) ≡ b → Holds (cond (a && b) (constructors >> give n) (told-command e) .out s p h)
+      go true true u v = (given (constructors .out s p h) n ∙ sym (y p (omega arith) (ltb-true p n u) v h), λ k q g z w. let i = came (constructors .out s p h) _ z in let j : n ≡ k = cc in λ r l m. y r (omega arith) (omega arith))
+      go true false u v = tries
+      go false b u v = tries
 
-  -- where CONSTRUCTORS alone is read, the item is read so
-  pub by-itself : {t : List ℕ} {c : Cursor} {n : ℕ} {w : Went (Unit {0})} {t′ : List ℕ} → Alone expression s (c .at) n → c .at < n → begins (ascii "CONSTRUCTORS") (drop (c .at) s) ≡ true → Reads constructors s t c w t′ → Reads (contents-command expression) s t c w t′
-  by-itself {t} {c} y l here x = record { said = y (c .at) (omega arith) l here (holds (c .count) t) ∙ x .said; kept = x .kept; came = x .came }
+-- for its caller
+module _ {e : Rule (Unit {0})} (x : Blind e) (s : List ℕ) {t : List ℕ} {c : Cursor} (n : ℕ) {t′ : List ℕ} (y : Alone e s (c .at) n) where
+  pub item-reads : (r : Went ℕ) → Reads (contents-item e n) s t c r t′ → Reads (contents-command e) s t c (valued tt r) t′
+  item-reads r z = let w = go r (z .came) in record { said = sym (item x s (c .at) (holds (c .count) t) n y .0) ∙ ap plainly (z .said) ∙ w .0; kept = z .kept; came = w .1 }
+    where
+      go : (r : Went ℕ) → CameTo s c r → (plainly (shown t′ r) ≡ shown t′ (valued tt r)) × CameTo s c (valued (tt {0}) r)
+      go (went k d) w = (refl, w)
+      go lost w = (refl, w)
+      go sunk w = (refl, w)
 
-pub within : (s : List ℕ) (c : Cursor) (w : Went (Unit {0})) {r : Went ℕ} {n : ℕ} → r ≡ valued n w → n ≤ c .at + run is-plain (drop (c .at) s) → Within s c r
-within s c w {n = n} e h = subst (Within s c) (sym e) (go w)
-  where
-    go : (w : Went (Unit {0})) → Within s c (valued n w)
-    go (went a d) = h
-    go lost = tt
-    go sunk = tt
-
-here : (w s : List ℕ) (p : ℕ) (h : Held) {q : ℕ} {g : Held} → tag w .out s p h ≡ got tt q g → begins w (drop p s) ≡ true
-unfolding tag
-here w s p h {q} {g} e = go (begins w (drop p s)) e
-  where
-    go : (b : Bool) → cond {A = Out (Unit {0})} b (got tt (p + length w) h) fail ≡ got tt q g → b ≡ true
-    go true e = refl
-    go false e = absurd (not-fail e)
-
-stands : (s : List ℕ) (p : ℕ) (h : Held) {q : ℕ} {g : Held} → constructors .out s p h ≡ got tt q g → begins (ascii "CONSTRUCTORS") (drop p s) ≡ true
-unfolding constructors tag-skip _>>=_
-stands s p h e = here _ s p h (came _ _ (came _ _ e .from) .from)
-
--- a token ends here
-pub reach : {s : List ℕ} {c d : Cursor} {t : Token} → Lexes (take-while is-plain) s c (went t d) → d .at ≤ c .at + run is-plain (drop (c .at) s)
-unfolding take-while
-reach {s} {c} {d} {t} x = go (eqb (run is-plain (drop (c .at) s)) 0) (x .said nothing)
-  where
-    go : (b : Bool) → cond b fail (got (span (c .at) (run is-plain (drop (c .at) s))) (c .at + run is-plain (drop (c .at) s)) nothing) ≡ got t (d .at) nothing → d .at ≤ c .at + run is-plain (drop (c .at) s)
-    go true e = absurd (not-fail e)
-    go false e = let i : d .at ≡ c .at + run is-plain (drop (c .at) s) = cc in omega arith
-
--- the tries before it failed in this place
-pub alone-after : {expression : Rule (Unit {0})} → Blind expression → {s t₁ t₂ t₃ t₄ : List ℕ} {c : Cursor} (r : Went ℕ) → Reads matcher s t₁ c lost t₂ → Reads (assignment expression) s t₂ c lost t₃ → Reads constructors s t₃ c (valued tt r) t₄ → Within s c r → AloneFrom expression s r
-alone-after x {s} {t₁} {t₂} {t₃} {c = c} (went n d) f₁ f₂ y z = λ q l m there h. alone x s (c .at) q (holds (c .count) t₁) (holds (c .count) t₂) h (stands s (c .at) (holds (c .count) t₃) (y .said)) (f₁ .said) (f₂ .said) (let i = y .came .on in omega arith) (omega arith) there
-alone-after x lost f₁ f₂ y z = tt
-alone-after x sunk f₁ f₂ y z = tt
+  pub still-alone : {k : ℕ} {d : Cursor} → Reads (contents-item e n) s t c (went k d) t′ → Alone e s (d .at) k
+  still-alone z = item x s (c .at) (holds (c .count) t) n y .1 _ _ _ (z .said) (z .came .on)

@@ -1,2 +1,3 @@
 -- Laws of what is told with an item.
+pub mod Told
 pub mod Alone

@@ -3,8 +3,8 @@ ghost use Prim.Native.Nat.{_≤_};
 ghost use Rattle.rules.specs.Rule.{_or-else_, repeat-till, word};
 ghost use Rattle.rules.specs.Expressions.{expression};
 ghost use Rattle.rules.specs.Contents as rule;
-ghost use Rattle.tape.specs.Contract.{Room, Reads, stepped, counted, valued};
-ghost use Rattle.contents.specs.Alone.{Alone, AloneFrom, Within, Item};
+ghost use Rattle.tape.specs.Contract.{Room, Reads, stepped, counted};
+ghost use Rattle.contents.specs.Item as own;
 use lex::Cursor;
 use lex::Read;
 use lex::Taken;
@@ -275,7 +275,7 @@ fn assignment(script: &[u8], tape: &mut [u64], c: Cursor, mode: Mode, left: usiz
 // CONSTRUCTORS, and where the token that it begins ends.
 fn last_try(script: &[u8], tape: &mut [u64], c: Cursor) -> Counted
     requires { ⌜ Room (now script) (now tape) c ⌝ }
-    ensures { λ r. ⌜ Reads rule.constructors (now (script .entry)) (now (tape .entry)) c (valued tt (counted r)) (now (tape .exit)) × Within (now (script .entry)) c (counted r) ⌝ }
+    ensures { λ r. ⌜ Reads own.last-try (now (script .entry)) (now (tape .entry)) c (counted r) (now (tape .exit)) ⌝ }
 {
     let made = constructors(script, tape, c);
     let word = c.take_while(script, Class::Plain);
@@ -288,7 +288,7 @@ fn last_try(script: &[u8], tape: &mut [u64], c: Cursor) -> Counted
 // One item of a section's contents: the tries in 000's order. The number is up to where CONSTRUCTORS alone is read.
 fn contents_command(script: &[u8], tape: &mut [u64], c: Cursor, mode: Mode, left: usize) -> Counted
     requires { ⌜ Room (now script) (now tape) c ⌝ }
-    ensures { λ r. ⌜ Reads (rule.contents-command (expression mode left)) (now (script .entry)) (now (tape .entry)) c (valued tt (counted r)) (now (tape .exit)) × AloneFrom (expression mode left) (now (script .entry)) (counted r) ⌝ }
+    ensures { λ r. ⌜ Reads (own.told-command (expression mode left)) (now (script .entry)) (now (tape .entry)) c (counted r) (now (tape .exit)) ⌝ }
 {
     let provided = contents_provide(script, tape, c, mode, left);
     let Step::Fail = provided else {
@@ -319,8 +319,7 @@ pub fn contents_item(
     alone: usize,
 ) -> Counted
     requires { ⌜ Room (now script) (now tape) c ⌝ }
-    requires { ⌜ Alone (expression mode left) (now script) (c .at) alone ⌝ }
-    ensures { λ r. ⌜ Item (expression mode left) (now (script .entry)) (now (tape .entry)) c (counted r) (now (tape .exit)) ⌝ }
+    ensures { λ r. ⌜ Reads (own.contents-item (expression mode left) alone) (now (script .entry)) (now (tape .entry)) c (counted r) (now (tape .exit)) ⌝ }
 {
     if c.at < alone {
         if c.starts(script, b"CONSTRUCTORS") {

@@ -1,3 +1,2 @@
 mod Closing
 mod Levels
-mod Chained

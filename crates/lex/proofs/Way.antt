@@ -17,6 +17,10 @@ abbrev pub set-out : {A : Type 0} {rule : Rule A} {s : List ℕ} {c : Cursor} �
 set-out {rule = rule} = record { rest = rule; go = λ x. x }
 
 module _ {A : Type 0} {Goal : Went A → Type 0} {s : List ℕ} {e : Cursor} (w : Trail Goal s e) where
+  -- another point of the same way
+  abbrev pub On : Cursor → Type 0
+  On = Trail Goal s
+
   -- past bytes; at bytes that are not there; at the rule's end
   module _ {B : Type 0} {m : Rule B} (n : B → Rule A) (q : w .rest ≡ (m >>= n)) where
     abbrev pub past : {b : B} {f : Cursor} → Lexes m s e (went b f) → Trail Goal s f

@@ -1,4 +1,4 @@
--- How what the parts of a rule show makes what the whole shows, a law for each way of going on: after bytes, after a call, after a record.
+-- How what the parts of a rule show makes what the whole shows, a law for each way of going on: after bytes, a try, a record.
 -- Each by rewriting with what the parts answer; that a byte was read for each record is the rule's own law.
 use mathlib.Core.Path.{_≡_, refl, sym, ap, subst, _∙_}
 use Prim.Native.Nat.{ℕ, suc, _+_, _*_, _-_, _≤_, _<_}
@@ -12,12 +12,7 @@ use Rattle.rules.specs.Rule.{Rule, got, holds, more, _>>=_, if_then_else_, _or-
 use Rattle.rules.proofs.Pays.{Fine, PaidOut}
 use Rattle.lex.specs.Contract.{Went, went, lost, sunk, Lexes, Moved}
 use Rattle.lex.specs.declared.Cursor.{Cursor}
-use Rattle.tape.specs.Contract.{Runs, Run, Room, Pushed, stepped, shown, CameTo, Reads}
-use Rattle.tape.specs.declared.Step.{Step}
-use Rattle.tape.specs.declared.Step.the-variants as step
-use Rattle.tape.proofs.Step.{the-type}
-use types.Run.{OneOf, miss}
-use denote.Enum.Declared.{tagOf}
+use Rattle.tape.specs.Contract.{Runs, Run, Room, Pushed, shown, CameTo, Reads}
 
 -- what agrees on the first n words agrees on the first m
 pub fewer : (m n : ℕ) (t u : List ℕ) → m ≤ n → take n u ≡ take n t → take m u ≡ take m t
@@ -78,46 +73,10 @@ module _ {s t : List ℕ} {c : Cursor} where
     unfolding _>>=_
     bytes-stop x = record { said = rw (x .said (holds (c .count) t)); kept = refl }
 
-    -- AFTER A CALL
-    pub call-then : {a : A} {e : Cursor} {t₁ : List ℕ} {r : Went B} {t′ : List ℕ} → Reads m s t c (went a e) t₁ → Run (n a) s t₁ e r t′ → Run (m >>= n) s t c r t′
-    unfolding _>>=_
-    call-then {e = e} {t₁} {r} {t′} x y = record {
-      said = rw (x .said) (y .said);
-      kept = fewer (5 * c .count) (5 * e .count) t₁ t′ (let k = x .came in omega arith) (y .kept) ∙ x .kept;
-    }
-
-    pub call-lost : {t₁ : List ℕ} → Reads m s t c lost t₁ → Run (m >>= n) s t c lost t₁
-    unfolding _>>=_
-    call-lost x = record { said = rw (x .said); kept = x .kept }
-
-    pub call-sunk : {t₁ : List ℕ} → Reads m s t c sunk t₁ → Run (m >>= n) s t c sunk t₁
-    unfolding _>>=_
-    call-sunk x = record { said = rw (x .said); kept = x .kept }
-
-  -- whichever of the two it is: what `let Step::Got(e) = r else { return r; };` leaves
-  pub call-stopped : {m : Rule (Unit {0})} (n : Unit {0} → Rule (Unit {0})) (r : Step) {t₁ : List ℕ} → Reads m s t c (stepped r) t₁ → OneOf (1 ∷ 2 ∷ []) (tagOf the-type r) → Run (m >>= n) s t c (stepped r) t₁
-  call-stopped n (step.Got e) x w = absurd (miss (1 ∷ 2 ∷ []) 0 tt w)
-  call-stopped n step.Fail x w = call-lost n x
-  call-stopped n step.Deep x w = call-sunk n x
-
-  module _ {A : Type 0} {r : Went A} {t′ : List ℕ} where
-    -- tests
-    pub chosen-run : {m : Rule A} (n : Rule A) {b : Bool} → b ≡ true → Run m s t c r t′ → Run (if b then m else n) s t c r t′
-    unfolding if_then_else_
-    chosen-run n e x = rw e x
-
-    pub other-run : (m : Rule A) {n : Rule A} {b : Bool} → b ≡ false → Run n s t c r t′ → Run (if b then m else n) s t c r t′
-    unfolding if_then_else_
-    other-run m e x = rw e x
-
-    -- tries
-    pub second-run : {m n : Rule A} → Lexes m s c lost → Run n s t c r t′ → Run (m or-else n) s t c r t′
-    unfolding _or-else_
-    second-run x y = record { said = rw (x .said (holds (c .count) t)) (y .said); kept = y .kept }
-
-    pub second-call : {m n : Rule A} {t₁ : List ℕ} → Run m s t c lost t₁ → Run n s t₁ c r t′ → Run (m or-else n) s t c r t′
-    unfolding _or-else_
-    second-call x y = record { said = rw (x .said, ← x .kept) (y .said); kept = y .kept ∙ x .kept }
+  -- tries
+  pub second-run : {A : Type 0} {m n : Rule A} {r : Went A} {t′ : List ℕ} → Lexes m s c lost → Run n s t c r t′ → Run (m or-else n) s t c r t′
+  unfolding _or-else_
+  second-run x y = record { said = rw (x .said (holds (c .count) t)) (y .said); kept = y .kept }
 
   pub first-run : {A : Type 0} {m : Rule A} (n : Rule A) {a : A} {e : Cursor} {t′ : List ℕ} → Run m s t c (went a e) t′ → Run (m or-else n) s t c (went a e) t′
   unfolding _or-else_

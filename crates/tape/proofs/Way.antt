@@ -33,6 +33,17 @@ pub record Walk {A : Type 0} (Goal : Went A → List ℕ → Type 0) (s : List �
   pub spare : e .count + k ≤ e .at
   pub low : f ≤ e .count
 
+-- another point of the same way; one further on with the same tape; one at the same cursor with another tape
+module _ {A : Type 0} {Goal : Went A → List ℕ → Type 0} {s : List ℕ} {n f k : ℕ} {t₁ : List ℕ} {e : Cursor} where
+  abbrev pub On : Walk Goal s n f k t₁ e → ℕ → List ℕ → Cursor → Type 0
+  On _ = Walk Goal s n f
+
+  abbrev pub Further : Walk Goal s n f k t₁ e → Cursor → Type 0
+  Further _ = Walk Goal s n f k t₁
+
+  abbrev pub Again : Walk Goal s n f k t₁ e → List ℕ → Type 0
+  Again _ t₂ = Walk Goal s n f k t₂ e
+
 -- a loop: the rule that is left is that of the turns that are left
 pub record Loop {A : Type 0} (Goal : Went A → List ℕ → Type 0) (s : List ℕ) (n f : ℕ) (rule : Rule A) (t₁ : List ℕ) (e : Cursor) : Type 0 where
   pub way : Walk Goal s n f 0 t₁ e

@@ -1,31 +1,28 @@
 -- The message pays for the record.
 use mathlib.Core.Path.{refl, _∙_}
-use Prim.Native.Nat.{ℕ}
-use mathlib.Core.List.{List}
 use Rattle.rules.specs.Expressions.{expression, assert}
 use Rattle.rules.proofs.Expressions.{expression-pays, assert-message-pays, assert-pays}
 use Rattle.lex.specs.Contract.{read, taken}
-use Rattle.lex.specs.declared.Cursor.{Cursor}
 use Rattle.lex.proofs.Lexes.{known, here-at}
 use Rattle.tape.specs.Contract.{stepped}
 use Rattle.tape.proofs.Runs.{known-read, runs, added}
-use Rattle.tape.proofs.Way.{Way, enter, bytes, earning, called, can-push, lost-here, ends-here, halts, not-stepped, as-it-is}
+use Rattle.tape.proofs.Way.{On, Further, Way, enter, bytes, earning, called, can-push, lost-here, ends-here, halts, not-stepped, as-it-is}
 use borrow.Author.Needs.{needs}
 use Rattle.assignments.proofs.asserted.Statement.{statement}
 use Rattle.assignments.proofs.asserted.Tie as tie
 
-abbrev Along : tie.Start → ℕ → List ℕ → Cursor → Type 0
-Along start = Way (assert 50 (expression (start .args .mode) (start .args .left))) (start .args .script .now) (start .args .tape .now) (start .args .c)
+abbrev at-entry : (c : tie.Start) → Way (assert 50 (expression (c .args .mode) (c .args .left))) (c .args .script .now) (c .args .tape .now) (c .args .c) 0 (c .args .tape .now) (c .args .c)
+at-entry c = enter (assert-pays 50 (expression-pays _ _)) (c .pre)
 
-abbrev at-opened : (c : tie.After-opened) → Along (c .before .before .before .before .before .before) 0 (c .before .before .before .before .before .before .args .tape .now) (c .opened .given .0 .0)
+abbrev at-opened : (c : tie.After-opened) → Further (at-entry (c .before .before .before .before .before .before)) (c .opened .given .0 .0)
 unfolding assert
-at-opened c = bytes _ (bytes _ (enter (assert-pays 50 (expression-pays (c .before .before .before .before .before .before .args .mode) (c .before .before .before .before .before .before .args .left))) (c .before .before .before .before .before .before .pre)) refl here-at) refl (known read (c .before .before .word-skip .ensures) (c .opened .given .1))
+at-opened c = bytes _ (bytes _ (at-entry (c .before .before .before .before .before .before)) refl here-at) refl (known read (c .before .before .word-skip .ensures) (c .opened .given .1))
 
-abbrev at-value : (c : tie.After-value) → Along (c .before .before .before .before .before .before .before .before .before .before .before .before .before) 0 (c .before .before .before .before .expression .last .1 .0) (c .value .given .0 .0)
+abbrev at-value : (c : tie.After-value) → On (at-opened (c .before .before .before .before .before .before .before)) 0 (c .before .before .before .before .expression .last .1 .0) (c .value .given .0 .0)
 unfolding assert
 at-value c = called _ (at-opened (c .before .before .before .before .before .before .before)) refl (known-read stepped (c .before .before .before .before .expression .ensures) (c .value .given .1)) (c .before .before .before .before .expression .kept .1 .0)
 
-abbrev at-text : (c : tie.After-text) → Along (c .before .before .before .before .before .before .before .before .before .before .before .before .before .before .before .before .before) 1 (c .before .before .before .before .before .before .before .before .expression .last .1 .0) (c .text .given .0 .1 .0)
+abbrev at-text : (c : tie.After-text) → On (at-value (c .before .before .before .before)) 1 (c .before .before .before .before .before .before .before .before .expression .last .1 .0) (c .text .given .0 .1 .0)
 unfolding assert
 at-text c = earning _ assert-message-pays (at-value (c .before .before .before .before)) refl (known taken (c .before .before .message .ensures) (c .text .given .1))
 
@@ -38,7 +35,7 @@ asserted-spec =
     (λ c κs. search needs)
     (λ c. search needs)
     (λ c. search needs)
-    (λ c. lost-here _ (bytes _ (enter (assert-pays 50 (expression-pays (c .before .before .before .before .before .before .args .mode) (c .before .before .before .before .before .before .args .left))) (c .before .before .before .before .before .before .pre)) refl here-at) refl (known read (c .before .before .word-skip .ensures) (c .enum-told .given .1)))
+    (λ c. lost-here _ (bytes _ (at-entry (c .before .before .before .before .before .before)) refl here-at) refl (known read (c .before .before .word-skip .ensures) (c .enum-told .given .1)))
     (λ c κs. (at-opened (c .before .before)) .room)
     (λ c. search needs)
     (λ c. c .before .before .before .expression .kept .1 .0 ∙ (at-opened (c .before .before .before .before .before .before)) .size)

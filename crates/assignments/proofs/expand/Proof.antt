@@ -1,36 +1,33 @@
 -- The operator costs the byte that the sign has read.
 use mathlib.Core.Path.{refl, _∙_}
-use Prim.Native.Nat.{ℕ}
-use mathlib.Core.List.{List}
 use borrow.Author.Tests.{eq-eqb, ne-eqb}
 use Rattle.rules.specs.Expressions.{expression}
 use Rattle.rules.specs.Assignments as rule
 use Rattle.lex.specs.Contract.{read}
-use Rattle.lex.specs.declared.Cursor.{Cursor}
 use Rattle.lex.proofs.Lexes.{known, given}
 use Rattle.tape.specs.Contract.{stepped}
 use Rattle.tape.proofs.Runs.{known-read, runs, added, as-bytes}
-use Rattle.tape.proofs.Way.{Short, enter-short, bytes, called, can-push, lost-here, ends-here, halts, not-stepped, as-it-is, where-so, where-not}
+use Rattle.tape.proofs.Way.{On, Further, Short, enter-short, bytes, called, can-push, lost-here, ends-here, halts, not-stepped, as-it-is, where-so, where-not}
 use borrow.Author.Needs.{needs}
 use Rattle.assignments.proofs.expand.Statement.{statement}
 use Rattle.assignments.proofs.expand.Tie as tie
 
-abbrev Along : tie.Start → ℕ → List ℕ → Cursor → Type 0
-Along start = Short (rule.expand (expression (start .args .mode) (start .args .left)) (start .args .kind)) (start .args .script .now) (start .args .tape .now) (start .args .c)
+abbrev at-entry : (c : tie.Start) → Short (rule.expand (expression (c .args .mode) (c .args .left)) (c .args .kind)) (c .args .script .now) (c .args .tape .now) (c .args .c) 1 (c .args .tape .now) (c .args .c)
+at-entry c = enter-short (c .pre .0) (c .pre .1)
 
-abbrev at-skipped : (c : tie.After-skipped) → Along (c .before .before .before .before .before) 1 (c .before .before .before .before .before .args .tape .now) (c .skipped .given .0 .0)
+abbrev at-skipped : (c : tie.After-skipped) → Further (at-entry (c .before .before .before .before .before)) (c .skipped .given .0 .0)
 unfolding rule.expand
-at-skipped c = bytes _ (enter-short (c .before .before .before .before .before .pre .0) (c .before .before .before .before .before .pre .1)) refl (known read (c .before .before .skip .ensures) (c .skipped .given .1))
+at-skipped c = bytes _ (at-entry (c .before .before .before .before .before)) refl (known read (c .before .before .skip .ensures) (c .skipped .given .1))
 
-abbrev at-value : (c : tie.After-value) → Along (c .before .before .before .before .before .before .before .before .before .before .before .before) 1 (c .before .before .before .before .expression .last .1 .0) (c .value .given .0 .0)
+abbrev at-value : (c : tie.After-value) → On (at-skipped (c .before .before .before .before .before .before .before)) 1 (c .before .before .before .before .expression .last .1 .0) (c .value .given .0 .0)
 unfolding rule.expand
 at-value c = called _ (at-skipped (c .before .before .before .before .before .before .before)) refl (known-read stepped (c .before .before .before .before .expression .ensures) (c .value .given .1)) (c .before .before .before .before .expression .kept .1 .0)
 
-abbrev at-if1 : (c : tie.Then1) → Along (c .before .before .before .before .before .before .before .before .before .before .before .before .before .before) 1 (c .before .before .before .before .before .before .expression .last .1 .0) (c .before .before .value .given .0 .0)
+abbrev at-if1 : (c : tie.Then1) → Further (at-value (c .before .before)) (c .before .before .value .given .0 .0)
 unfolding rule.expand
 at-if1 c = where-so (at-value (c .before .before)) _ _ refl (eq-eqb _ _ (c .if1 .taken))
 
-abbrev at-if1-left : (c : tie.Else1) → Along (c .before .before .before .before .before .before .before .before .before .before .before .before .before .before) 1 (c .before .before .before .before .before .before .expression .last .1 .0) (c .before .before .value .given .0 .0)
+abbrev at-if1-left : (c : tie.Else1) → Further (at-value (c .before .before)) (c .before .before .value .given .0 .0)
 unfolding rule.expand
 at-if1-left c = where-not (at-value (c .before .before)) _ _ refl (ne-eqb _ _ (c .if1 .left))
 
@@ -42,7 +39,7 @@ expand-spec =
     (λ c κs. search needs)
     (λ c. search needs)
     (λ c. search needs)
-    (λ c. lost-here _ (enter-short (c .before .before .before .before .before .pre .0) (c .before .before .before .before .before .pre .1)) refl (known read (c .before .before .skip .ensures) (c .enum-told .given .1)))
+    (λ c. lost-here _ (at-entry (c .before .before .before .before .before)) refl (known read (c .before .before .skip .ensures) (c .enum-told .given .1)))
     (λ c κs. (at-skipped (c .before .before)) .room)
     (λ c. search needs)
     (λ c. c .before .before .before .expression .kept .1 .0 ∙ (at-skipped (c .before .before .before .before .before .before)) .size)

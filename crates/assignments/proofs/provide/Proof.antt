@@ -1,46 +1,43 @@
 -- The name pays for the record.
 use mathlib.Core.Path.{refl, _∙_}
-use Prim.Native.Nat.{ℕ}
-use mathlib.Core.List.{List}
 use Rattle.rules.specs.Expressions.{expression}
 use Rattle.rules.specs.Assignments as rule
 use Rattle.rules.proofs.Bytes.{token-pays}
 use Rattle.rules.proofs.Expressions.{expression-pays}
 use Rattle.rules.proofs.Commands.{provide-pays}
 use Rattle.lex.specs.Contract.{read, taken}
-use Rattle.lex.specs.declared.Cursor.{Cursor}
 use Rattle.lex.proofs.Lexes.{known}
 use Rattle.tape.specs.Contract.{stepped}
 use Rattle.tape.proofs.Runs.{known-read, runs, added}
-use Rattle.tape.proofs.Way.{Way, enter, bytes, earning, called, can-push, lost-here, ends-here, halts, not-stepped, as-it-is}
+use Rattle.tape.proofs.Way.{On, Further, Way, enter, bytes, earning, called, can-push, lost-here, ends-here, halts, not-stepped, as-it-is}
 use borrow.Author.Needs.{needs}
 use Rattle.assignments.proofs.provide.Statement.{statement}
 use Rattle.assignments.proofs.provide.Tie as tie
 
-abbrev Along : tie.Start → ℕ → List ℕ → Cursor → Type 0
-Along start = Way (rule.provide (start .args .hidden) (expression (start .args .mode) (start .args .left))) (start .args .script .now) (start .args .tape .now) (start .args .c)
+abbrev at-entry : (c : tie.Start) → Way (rule.provide (c .args .hidden) (expression (c .args .mode) (c .args .left))) (c .args .script .now) (c .args .tape .now) (c .args .c) 0 (c .args .tape .now) (c .args .c)
+at-entry c = enter (provide-pays (expression-pays _ _) (c .args .hidden)) (c .pre)
 
-abbrev at-opened : (c : tie.After-opened) → Along (c .before .before .before .before .before .before) 0 (c .before .before .before .before .before .before .args .tape .now) (c .opened .given .0 .0)
+abbrev at-opened : (c : tie.After-opened) → Further (at-entry (c .before .before .before .before .before .before)) (c .opened .given .0 .0)
 unfolding rule.provide
-at-opened c = bytes _ (enter (provide-pays (expression-pays (c .before .before .before .before .before .before .args .mode) (c .before .before .before .before .before .before .args .left)) (c .before .before .before .before .before .before .args .hidden)) (c .before .before .before .before .before .before .pre)) refl (known read (c .before .before .word-skip .ensures) (c .opened .given .1))
+at-opened c = bytes _ (at-entry (c .before .before .before .before .before .before)) refl (known read (c .before .before .word-skip .ensures) (c .opened .given .1))
 
-abbrev at-name : (c : tie.After-name) → Along (c .before .before .before .before .before .before .before .before .before .before) 1 (c .before .before .before .before .before .before .before .before .before .before .args .tape .now) (c .name .given .0 .1 .0)
+abbrev at-name : (c : tie.After-name) → On (at-opened (c .before .before .before .before)) 1 (c .before .before .before .before .before .before .before .before .before .before .args .tape .now) (c .name .given .0 .1 .0)
 unfolding rule.provide
 at-name c = earning _ token-pays (at-opened (c .before .before .before .before)) refl (known taken (c .before .before .token .ensures) (c .name .given .1))
 
-abbrev at-equals : (c : tie.After-equals) → Along (c .before .before .before .before .before .before .before .before .before .before .before .before .before .before .before) 1 (c .before .before .before .before .before .before .before .before .before .before .before .before .before .before .before .args .tape .now) (c .equals .given .0 .0)
+abbrev at-equals : (c : tie.After-equals) → Further (at-name (c .before .before .before .before .before)) (c .equals .given .0 .0)
 unfolding rule.provide
 at-equals c = bytes _ (at-name (c .before .before .before .before .before)) refl (known read (c .before .before .skip-word-skip .ensures) (c .equals .given .1))
 
-abbrev at-value : (c : tie.After-value) → Along (c .before .before .before .before .before .before .before .before .before .before .before .before .before .before .before .before .before .before .before .before .before .before) 1 (c .before .before .before .before .expression .last .1 .0) (c .value .given .0 .0)
+abbrev at-value : (c : tie.After-value) → On (at-equals (c .before .before .before .before .before .before .before)) 1 (c .before .before .before .before .expression .last .1 .0) (c .value .given .0 .0)
 unfolding rule.provide
 at-value c = called _ (at-equals (c .before .before .before .before .before .before .before)) refl (known-read stepped (c .before .before .before .before .expression .ensures) (c .value .given .1)) (c .before .before .before .before .expression .kept .1 .0)
 
-abbrev at-closed : (c : tie.After-closed) → Along (c .before .before .before .before .before .before .before .before .before .before .before .before .before .before .before .before .before .before .before .before .before .before .before .before .before .before .before) 1 (c .before .before .before .before .before .before .before .before .before .expression .last .1 .0) (c .closed .given .0 .0)
+abbrev at-closed : (c : tie.After-closed) → Further (at-value (c .before .before .before .before .before)) (c .closed .given .0 .0)
 unfolding rule.provide
 at-closed c = bytes _ (at-value (c .before .before .before .before .before)) refl (known read (c .before .before .skip-word-skip2 .ensures) (c .closed .given .1))
 
-abbrev at-ended : (c : tie.After-ended) → Along (c .before .before .before .before .before .before .before .before .before .before .before .before .before .before .before .before .before .before .before .before .before .before .before .before .before .before .before .before .before .before .before .before) 1 (c .before .before .before .before .before .before .before .before .before .before .before .before .before .before .expression .last .1 .0) (c .ended .given .0 .0)
+abbrev at-ended : (c : tie.After-ended) → Further (at-closed (c .before .before .before .before .before)) (c .ended .given .0 .0)
 unfolding rule.provide
 at-ended c = bytes _ (at-closed (c .before .before .before .before .before)) refl (known read (c .before .before .opt-word-skip .ensures) (c .ended .given .1))
 
@@ -53,7 +50,7 @@ provide-spec =
     (λ c κs. search needs)
     (λ c. search needs)
     (λ c. search needs)
-    (λ c. lost-here _ (enter (provide-pays (expression-pays (c .before .before .before .before .before .before .args .mode) (c .before .before .before .before .before .before .args .left)) (c .before .before .before .before .before .before .args .hidden)) (c .before .before .before .before .before .before .pre)) refl (known read (c .before .before .word-skip .ensures) (c .enum-told .given .1)))
+    (λ c. lost-here _ (at-entry (c .before .before .before .before .before .before)) refl (known read (c .before .before .word-skip .ensures) (c .enum-told .given .1)))
     (λ c κs. search needs)
     (λ c. search needs)
     (λ c. search needs)

@@ -1,37 +1,34 @@
 -- ASSERT pays for itself.
 use mathlib.Core.Path.{refl, _∙_}
-use Prim.Native.Nat.{ℕ}
-use mathlib.Core.List.{List}
 use Rattle.rules.specs.Expressions.{expression}
 use Rattle.rules.specs.Commands as rule
 use Rattle.rules.proofs.Expressions.{expression-pays}
 use Rattle.rules.proofs.Commands.{asserted-pays}
 use Rattle.lex.specs.Contract.{read}
-use Rattle.lex.specs.declared.Cursor.{Cursor}
 use Rattle.lex.proofs.Lexes.{known}
 use Rattle.tape.specs.Contract.{stepped}
 use Rattle.tape.proofs.Runs.{known-read, runs, as-bytes, as-lost}
-use Rattle.tape.proofs.Way.{Way, enter, called, ends-here, halts, not-stepped, as-it-is}
+use Rattle.tape.proofs.Way.{On, Way, enter, called, ends-here, halts, not-stepped, as-it-is}
 use borrow.Author.Needs.{needs}
 use Rattle.commands.proofs.asserted.Statement.{statement}
 use Rattle.commands.proofs.asserted.Tie as tie
 
-abbrev Along : tie.Start → ℕ → List ℕ → Cursor → Type 0
-Along start = Way (rule.asserted (expression (start .args .mode) (start .args .left))) (start .args .script .now) (start .args .tape .now) (start .args .c)
+abbrev at-entry : (c : tie.Start) → Way (rule.asserted (expression (c .args .mode) (c .args .left))) (c .args .script .now) (c .args .tape .now) (c .args .c) 0 (c .args .tape .now) (c .args .c)
+at-entry c = enter (asserted-pays (expression-pays _ _)) (c .pre)
 
-abbrev at-told : (c : tie.After-told) → Along (c .before .before .before .before .before .before .before .before) 0 (c .before .before .before .before .asserted .last .1 .0) (c .told .given .0 .0)
+abbrev at-told : (c : tie.After-told) → On (at-entry (c .before .before .before .before .before .before .before .before)) 0 (c .before .before .before .before .asserted .last .1 .0) (c .told .given .0 .0)
 unfolding rule.asserted
-at-told c = called _ (enter (asserted-pays (expression-pays (c .before .before .before .before .before .before .before .before .args .mode) (c .before .before .before .before .before .before .before .before .args .left))) (c .before .before .before .before .before .before .before .before .pre)) refl (known-read stepped (c .before .before .before .before .asserted .ensures) (c .told .given .1)) (c .before .before .before .before .asserted .kept .1 .0)
+at-told c = called _ (at-entry (c .before .before .before .before .before .before .before .before)) refl (known-read stepped (c .before .before .before .before .asserted .ensures) (c .told .given .1)) (c .before .before .before .before .asserted .kept .1 .0)
 
 pub asserted-spec : {M : Type 1} → statement M
 unfolding rule.asserted
 asserted-spec =
     tie.close
     (tie.spec
-    (λ c κs. (enter (asserted-pays (expression-pays (c .before .before .before .args .mode) (c .before .before .before .args .left))) (c .before .before .before .pre)) .room)
+    (λ c κs. (at-entry (c .before .before .before)) .room)
     (λ c. search needs)
-    (λ c. c .before .before .before .asserted .kept .1 .0 ∙ (enter (asserted-pays (expression-pays (c .before .before .before .before .before .before .before .args .mode) (c .before .before .before .before .before .before .before .args .left))) (c .before .before .before .before .before .before .before .pre)) .size)
-    (λ c. halts _ (enter (asserted-pays (expression-pays (c .before .before .before .before .before .before .before .args .mode) (c .before .before .before .before .before .before .before .args .left))) (c .before .before .before .before .before .before .before .pre)) refl (not-stepped (c .before .before .before .asserted .result) (c .match .keys2)) (runs (c .before .before .before .asserted .ensures)) tt (as-it-is (stepped (c .before .before .before .asserted .result))))
+    (λ c. c .before .before .before .asserted .kept .1 .0 ∙ (at-entry (c .before .before .before .before .before .before .before)) .size)
+    (λ c. halts _ (at-entry (c .before .before .before .before .before .before .before)) refl (not-stepped (c .before .before .before .asserted .result) (c .match .keys2)) (runs (c .before .before .before .asserted .ensures)) tt (as-it-is (stepped (c .before .before .before .asserted .result))))
     (λ c. search needs)
     (λ c κs. search needs)
     (λ c. search needs)

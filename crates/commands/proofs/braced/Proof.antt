@@ -1,8 +1,6 @@
 -- The brace pays for the record.
 use mathlib.Core.Path.{refl, sym, ap, _∙_}
-use Prim.Native.Nat.{ℕ}
 use native.Mathlib.Omega.{arith}
-use mathlib.Core.List.{List}
 use Rattle.rules.specs.Text.{ascii}
 use Rattle.rules.specs.Expressions.{expression}
 use Rattle.rules.specs.Commands as rule
@@ -10,33 +8,32 @@ use Rattle.rules.proofs.Bytes.{tag-skip-earns}
 use Rattle.rules.proofs.Expressions.{expression-pays}
 use Rattle.rules.proofs.Commands.{braced-pays}
 use Rattle.lex.specs.Contract.{read}
-use Rattle.lex.specs.declared.Cursor.{Cursor}
 use Rattle.lex.proofs.Lexes.{known}
 use Rattle.tape.specs.Contract.{counted}
 use Rattle.tape.proofs.Runs.{known-read, runs, added}
-use Rattle.tape.proofs.Way.{Way, enter, bytes, earning, called, can-push, lost-here, ends-here, halts, not-counted}
+use Rattle.tape.proofs.Way.{On, Further, Way, enter, bytes, earning, called, can-push, lost-here, ends-here, halts, not-counted}
 use Rattle.rules.specs.Rule.{add}
 use Rattle.tape.proofs.Way.{same-as}
 use borrow.Author.Needs.{needs}
 use Rattle.commands.proofs.braced.Statement.{statement}
 use Rattle.commands.proofs.braced.Tie as tie
 
-abbrev Along : tie.Start → ℕ → List ℕ → Cursor → Type 0
-Along start = Way (rule.braced (expression (start .args .mode) (start .args .left)) (start .args .which)) (start .args .script .now) (start .args .tape .now) (start .args .c)
+abbrev at-entry : (c : tie.Start) → Way (rule.braced (expression (c .args .mode) (c .args .left)) (c .args .which)) (c .args .script .now) (c .args .tape .now) (c .args .c) 0 (c .args .tape .now) (c .args .c)
+at-entry c = enter (braced-pays (expression-pays _ _) (c .args .which)) (c .pre)
 
-abbrev at-opened : (c : tie.After-opened) → Along (c .before .before .before .before .before .before) 1 (c .before .before .before .before .before .before .args .tape .now) (c .opened .given .0 .0)
+abbrev at-opened : (c : tie.After-opened) → On (at-entry (c .before .before .before .before .before .before)) 1 (c .before .before .before .before .before .before .args .tape .now) (c .opened .given .0 .0)
 unfolding rule.braced
-at-opened c = earning _ (tag-skip-earns (ascii "{") (omega arith)) (enter (braced-pays (expression-pays (c .before .before .before .before .before .before .args .mode) (c .before .before .before .before .before .before .args .left)) (c .before .before .before .before .before .before .args .which)) (c .before .before .before .before .before .before .pre)) refl (known read (c .before .before .word-skip .ensures) (c .opened .given .1))
+at-opened c = earning _ (tag-skip-earns (ascii "{") (omega arith)) (at-entry (c .before .before .before .before .before .before)) refl (known read (c .before .before .word-skip .ensures) (c .opened .given .1))
 
-abbrev at-list : (c : tie.After-list) → Along (c .before .before .before .before .before .before .before .before .before .before .before .before .before) 1 (c .before .before .before .before .items .last .1 .0) (c .list .given .0 .1 .0)
+abbrev at-list : (c : tie.After-list) → On (at-opened (c .before .before .before .before .before .before .before)) 1 (c .before .before .before .before .items .last .1 .0) (c .list .given .0 .1 .0)
 unfolding rule.braced
 at-list c = called _ (at-opened (c .before .before .before .before .before .before .before)) refl (known-read counted (c .before .before .before .before .items .ensures) (c .list .given .1)) (c .before .before .before .before .items .kept .1 .0)
 
-abbrev at-skipped : (c : tie.After-skipped) → Along (c .before .before .before .before .before .before .before .before .before .before .before .before .before .before .before .before .before) 1 (c .before .before .before .before .before .before .before .before .items .last .1 .0) (c .skipped .given .0 .0)
+abbrev at-skipped : (c : tie.After-skipped) → Further (at-list (c .before .before .before .before)) (c .skipped .given .0 .0)
 unfolding rule.braced
 at-skipped c = bytes _ (at-list (c .before .before .before .before)) refl (known read (c .before .before .skip .ensures) (c .skipped .given .1))
 
-abbrev at-kind-of : (c : tie.After-kind-of) → Along (c .before .before .before .before .before .before .before .before .before .before .before .before .before .before .before .before .before .before .before) 1 (c .before .before .before .before .before .before .before .before .before .before .items .last .1 .0) (c .before .before .skipped .given .0 .0)
+abbrev at-kind-of : (c : tie.After-kind-of) → Further (at-skipped (c .before .before)) (c .before .before .skipped .given .0 .0)
 unfolding rule.braced
 at-kind-of c = same-as (at-skipped (c .before .before)) (ap (λ n. add n (c .before .before .before .before .before .before .list .given .0 .0) 0 0 0) (sym (c .kind-of .ensures)))
 
@@ -49,7 +46,7 @@ braced-spec =
     (λ c κs. search needs)
     (λ c. search needs)
     (λ c. search needs)
-    (λ c. lost-here _ (enter (braced-pays (expression-pays (c .before .before .before .before .before .before .args .mode) (c .before .before .before .before .before .before .args .left)) (c .before .before .before .before .before .before .args .which)) (c .before .before .before .before .before .before .pre)) refl (known read (c .before .before .word-skip .ensures) (c .enum-told .given .1)))
+    (λ c. lost-here _ (at-entry (c .before .before .before .before .before .before)) refl (known read (c .before .before .word-skip .ensures) (c .enum-told .given .1)))
     (λ c κs. (at-opened (c .before .before)) .room)
     (λ c. search needs)
     (λ c κs. search needs)

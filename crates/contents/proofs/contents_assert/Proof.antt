@@ -1,29 +1,26 @@
 -- ASSERT pays for itself.
 use mathlib.Core.Path.{refl, _∙_}
-use Prim.Native.Nat.{ℕ}
-use mathlib.Core.List.{List}
 use Rattle.rules.specs.Expressions.{expression}
 use Rattle.rules.specs.Contents as rule
 use Rattle.rules.proofs.Expressions.{expression-pays}
 use Rattle.rules.proofs.Commands.{contents-assert-pays}
 use Rattle.lex.specs.Contract.{read}
-use Rattle.lex.specs.declared.Cursor.{Cursor}
 use Rattle.lex.proofs.Lexes.{known}
 use Rattle.tape.specs.Contract.{stepped}
 use Rattle.tape.proofs.Runs.{known-read, runs, as-bytes, as-lost}
-use Rattle.tape.proofs.Way.{Way, enter, bytes, called, lost-here, ends-here, halts, not-stepped, as-it-is}
+use Rattle.tape.proofs.Way.{On, Further, Way, enter, bytes, called, lost-here, ends-here, halts, not-stepped, as-it-is}
 use borrow.Author.Needs.{needs}
 use Rattle.contents.proofs.contents_assert.Statement.{statement}
 use Rattle.contents.proofs.contents_assert.Tie as tie
 
-abbrev Along : tie.Start → ℕ → List ℕ → Cursor → Type 0
-Along start = Way (rule.contents-assert (expression (start .args .mode) (start .args .left))) (start .args .script .now) (start .args .tape .now) (start .args .c)
+abbrev at-entry : (c : tie.Start) → Way (rule.contents-assert (expression (c .args .mode) (c .args .left))) (c .args .script .now) (c .args .tape .now) (c .args .c) 0 (c .args .tape .now) (c .args .c)
+at-entry c = enter (contents-assert-pays (expression-pays _ _)) (c .pre)
 
-abbrev at-named : (c : tie.After-named) → Along (c .before .before .before .before .before .before) 0 (c .before .before .before .before .before .before .args .tape .now) (c .named .given .0 .0)
+abbrev at-named : (c : tie.After-named) → Further (at-entry (c .before .before .before .before .before .before)) (c .named .given .0 .0)
 unfolding rule.contents-assert
-at-named c = bytes _ (enter (contents-assert-pays (expression-pays (c .before .before .before .before .before .before .args .mode) (c .before .before .before .before .before .before .args .left))) (c .before .before .before .before .before .before .pre)) refl (known read (c .before .before .word-skip .ensures) (c .named .given .1))
+at-named c = bytes _ (at-entry (c .before .before .before .before .before .before)) refl (known read (c .before .before .word-skip .ensures) (c .named .given .1))
 
-abbrev at-told : (c : tie.After-told) → Along (c .before .before .before .before .before .before .before .before .before .before .before .before .before) 0 (c .before .before .before .before .asserted .last .1 .0) (c .told .given .0 .0)
+abbrev at-told : (c : tie.After-told) → On (at-named (c .before .before .before .before .before .before .before)) 0 (c .before .before .before .before .asserted .last .1 .0) (c .told .given .0 .0)
 unfolding rule.contents-assert
 at-told c = called _ (at-named (c .before .before .before .before .before .before .before)) refl (known-read stepped (c .before .before .before .before .asserted .ensures) (c .told .given .1)) (c .before .before .before .before .asserted .kept .1 .0)
 
@@ -36,7 +33,7 @@ contents-assert-spec =
     (λ c κs. search needs)
     (λ c. search needs)
     (λ c. search needs)
-    (λ c. lost-here _ (enter (contents-assert-pays (expression-pays (c .before .before .before .before .before .before .args .mode) (c .before .before .before .before .before .before .args .left))) (c .before .before .before .before .before .before .pre)) refl (known read (c .before .before .word-skip .ensures) (c .enum-told .given .1)))
+    (λ c. lost-here _ (at-entry (c .before .before .before .before .before .before)) refl (known read (c .before .before .word-skip .ensures) (c .enum-told .given .1)))
     (λ c κs. (at-named (c .before .before)) .room)
     (λ c. search needs)
     (λ c. c .before .before .before .asserted .kept .1 .0 ∙ (at-named (c .before .before .before .before .before .before)) .size)

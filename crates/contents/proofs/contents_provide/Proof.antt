@@ -1,29 +1,26 @@
 -- PROVIDE pays for itself.
 use mathlib.Core.Path.{refl, _∙_}
-use Prim.Native.Nat.{ℕ}
-use mathlib.Core.List.{List}
 use Rattle.rules.specs.Expressions.{expression}
 use Rattle.rules.specs.Contents as rule
 use Rattle.rules.proofs.Expressions.{expression-pays}
 use Rattle.rules.proofs.Commands.{contents-provide-pays}
 use Rattle.lex.specs.Contract.{read}
-use Rattle.lex.specs.declared.Cursor.{Cursor}
 use Rattle.lex.proofs.Lexes.{known}
 use Rattle.operators.specs.Answers.{operated}
 use Rattle.tape.proofs.Runs.{runs}
-use Rattle.tape.proofs.Way.{Way, enter, bytes, lost-here, ends-here}
+use Rattle.tape.proofs.Way.{Further, Way, enter, bytes, lost-here, ends-here}
 use borrow.Author.Needs.{needs}
 use Rattle.contents.proofs.contents_provide.Statement.{statement}
 use Rattle.contents.proofs.contents_provide.Tie as tie
 
-abbrev Along : tie.Start → ℕ → List ℕ → Cursor → Type 0
-Along start = Way (rule.contents-provide (expression (start .args .mode) (start .args .left))) (start .args .script .now) (start .args .tape .now) (start .args .c)
+abbrev at-entry : (c : tie.Start) → Way (rule.contents-provide (expression (c .args .mode) (c .args .left))) (c .args .script .now) (c .args .tape .now) (c .args .c) 0 (c .args .tape .now) (c .args .c)
+at-entry c = enter (contents-provide-pays (expression-pays _ _)) (c .pre)
 
-abbrev at-named : (c : tie.After-named) → Along (c .before .before .before .before .before .before .before) 0 (c .before .before .before .before .before .before .before .args .tape .now) (c .named .given .0 .1 .0)
+abbrev at-named : (c : tie.After-named) → Further (at-entry (c .before .before .before .before .before .before .before)) (c .named .given .0 .1 .0)
 unfolding rule.contents-provide
-at-named c = bytes _ (enter (contents-provide-pays (expression-pays (c .before .before .before .before .before .before .before .args .mode) (c .before .before .before .before .before .before .before .args .left))) (c .before .before .before .before .before .before .before .pre)) refl (known operated (c .before .before .sign-of-two .ensures) (c .named .given .1))
+at-named c = bytes _ (at-entry (c .before .before .before .before .before .before .before)) refl (known operated (c .before .before .sign-of-two .ensures) (c .named .given .1))
 
-abbrev at-skipped : (c : tie.After-skipped) → Along (c .before .before .before .before .before .before .before .before .before .before .before) 0 (c .before .before .before .before .before .before .before .before .before .before .before .args .tape .now) (c .skipped .given .0 .0)
+abbrev at-skipped : (c : tie.After-skipped) → Further (at-named (c .before .before .before .before)) (c .skipped .given .0 .0)
 unfolding rule.contents-provide
 at-skipped c = bytes _ (at-named (c .before .before .before .before)) refl (known read (c .before .before .skip .ensures) (c .skipped .given .1))
 
@@ -37,7 +34,7 @@ contents-provide-spec =
     (λ c κs. search needs)
     (λ c. search needs)
     (λ c. search needs)
-    (λ c. lost-here _ (enter (contents-provide-pays (expression-pays (c .before .before .before .before .before .before .before .args .mode) (c .before .before .before .before .before .before .before .args .left))) (c .before .before .before .before .before .before .before .pre)) refl (known operated (c .before .before .sign-of-two .ensures) (c .enum-told .given .1)))
+    (λ c. lost-here _ (at-entry (c .before .before .before .before .before .before .before)) refl (known operated (c .before .before .sign-of-two .ensures) (c .enum-told .given .1)))
     (λ c κs. search needs)
     (λ c. search needs)
     (λ c. search needs)

@@ -1,32 +1,29 @@
 -- The matcher pays for itself.
 use mathlib.Core.Path.{refl, _∙_}
-use Prim.Native.Nat.{ℕ}
 use native.Mathlib.Omega.{arith}
-use mathlib.Core.List.{List}
 use Rattle.rules.specs.Contents as rule
 use Rattle.rules.proofs.Commands.{keep-pays}
 use Rattle.lex.specs.Contract.{read}
-use Rattle.lex.specs.declared.Cursor.{Cursor}
 use Rattle.lex.proofs.Lexes.{known}
 use Rattle.tape.specs.Contract.{stepped}
 use Rattle.tape.proofs.Runs.{known-read, runs, as-bytes, as-lost}
-use Rattle.tape.proofs.Way.{Way, enter, bytes, called, lost-here, ends-here, halts, not-stepped, as-it-is}
+use Rattle.tape.proofs.Way.{On, Further, Way, enter, bytes, called, lost-here, ends-here, halts, not-stepped, as-it-is}
 use borrow.Author.Needs.{needs}
 use Rattle.contents.proofs.keep.Statement.{statement}
 use Rattle.contents.proofs.keep.Tie as tie
 
-abbrev Along : tie.Start → ℕ → List ℕ → Cursor → Type 0
-Along start = Way (rule.keep) (start .args .script .now) (start .args .tape .now) (start .args .c)
+abbrev at-entry : (c : tie.Start) → Way (rule.keep) (c .args .script .now) (c .args .tape .now) (c .args .c) 0 (c .args .tape .now) (c .args .c)
+at-entry c = enter keep-pays (c .pre)
 
-abbrev at-named : (c : tie.After-named) → Along (c .before .before .before .before .before .before) 0 (c .before .before .before .before .before .before .args .tape .now) (c .named .given .0 .0)
+abbrev at-named : (c : tie.After-named) → Further (at-entry (c .before .before .before .before .before .before)) (c .named .given .0 .0)
 unfolding rule.keep
-at-named c = bytes _ (enter (keep-pays) (c .before .before .before .before .before .before .pre)) refl (known read (c .before .before .word .ensures) (c .named .given .1))
+at-named c = bytes _ (at-entry (c .before .before .before .before .before .before)) refl (known read (c .before .before .word .ensures) (c .named .given .1))
 
-abbrev at-opened : (c : tie.After-opened) → Along (c .before .before .before .before .before .before .before .before .before .before .before) 0 (c .before .before .before .before .before .before .before .before .before .before .before .args .tape .now) (c .opened .given .0 .0)
+abbrev at-opened : (c : tie.After-opened) → Further (at-named (c .before .before .before .before .before)) (c .opened .given .0 .0)
 unfolding rule.keep
 at-opened c = bytes _ (at-named (c .before .before .before .before .before)) refl (known read (c .before .before .skip-word .ensures) (c .opened .given .1))
 
-abbrev at-kept : (c : tie.After-kept) → Along (c .before .before .before .before .before .before .before .before .before .before .before .before .before .before .before .before .before .before) 0 (c .before .before .before .before .matcher-pattern .last .1 .0) (c .kept .given .0 .0)
+abbrev at-kept : (c : tie.After-kept) → On (at-opened (c .before .before .before .before .before .before .before)) 0 (c .before .before .before .before .matcher-pattern .last .1 .0) (c .kept .given .0 .0)
 unfolding rule.keep
 at-kept c = called _ (at-opened (c .before .before .before .before .before .before .before)) refl (known-read stepped (c .before .before .before .before .matcher-pattern .ensures) (c .kept .given .1)) (c .before .before .before .before .matcher-pattern .kept .1 .0)
 
@@ -39,7 +36,7 @@ keep-spec =
     (λ c κs. search needs)
     (λ c. search needs)
     (λ c. search needs)
-    (λ c. lost-here _ (enter (keep-pays) (c .before .before .before .before .before .before .pre)) refl (known read (c .before .before .word .ensures) (c .enum-told .given .1)))
+    (λ c. lost-here _ (at-entry (c .before .before .before .before .before .before)) refl (known read (c .before .before .word .ensures) (c .enum-told .given .1)))
     (λ c. search needs)
     (λ c κs. search needs)
     (λ c. search needs)

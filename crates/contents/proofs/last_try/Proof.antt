@@ -1,10 +1,8 @@
--- The bytes of a token go to where they are taken.
-use native.Mathlib.Omega.{arith}
+-- The end of the token is where its bytes are taken to, and where there are none CONSTRUCTORS is not read.
 use Rattle.lex.specs.Contract.{taken}
 use Rattle.lex.proofs.Lexes.{known}
-use Rattle.tape.specs.Contract.{stepped}
 use borrow.Author.Needs.{needs}
-use Rattle.contents.proofs.Alone.{telling, within, reach}
+use Rattle.contents.proofs.Told.{token-taken, no-token}
 use Rattle.contents.proofs.last_try.Statement.{statement}
 use Rattle.contents.proofs.last_try.Tie as tie
 
@@ -18,7 +16,7 @@ last-try-spec =
     (λ c. search needs)
     (λ c κs. search needs)
     (λ c. c .before .before .before .before .before .before .constructors .kept .1 .0)
-    (λ c. (telling 0 (c .counted .ensures) (c .before .before .before .before .before .before .constructors .ensures), within _ _ (stepped (c .before .before .before .before .before .before .constructors .result)) (c .counted .ensures) (omega arith)))
+    (λ c. no-token (c .before .before .before .before .before .before .constructors .ensures) (known taken (c .before .before .before .take-while .ensures) (c .before .enum-told .given .1)) (c .counted .ensures))
     (λ c κs. search needs)
     (λ c. c .before .before .before .before .before .before .before .constructors .kept .1 .0)
-    (λ c. (telling _ (c .counted2 .ensures) (c .before .before .before .before .before .before .before .constructors .ensures), within _ _ (stepped (c .before .before .before .before .before .before .before .constructors .result)) (c .counted2 .ensures) (reach (known taken (c .before .before .before .before .take-while .ensures) (c .before .before .word .given .1))))))
+    (λ c. token-taken (c .before .before .before .before .before .before .before .constructors .ensures) (known taken (c .before .before .before .before .take-while .ensures) (c .before .before .word .given .1)) (c .counted2 .ensures)))

@@ -1,51 +1,48 @@
 -- The file pattern pays for the record.
 use mathlib.Core.Path.{refl, _∙_}
-use Prim.Native.Nat.{ℕ}
 use native.Mathlib.Omega.{arith}
-use mathlib.Core.List.{List}
 use Rattle.rules.specs.Contents as rule
 use Rattle.rules.proofs.Bytes.{token-pays}
 use Rattle.rules.proofs.Commands.{matcher-pattern-pays}
 use Rattle.lex.specs.Contract.{read, taken}
-use Rattle.lex.specs.declared.Cursor.{Cursor}
 use Rattle.lex.proofs.Lexes.{known}
 use Rattle.lex.proofs.Name.{keyed-token}
 use Rattle.keywords.proofs.Names.{star, no-star}
 use Rattle.tape.specs.Contract.{counted}
 use Rattle.tape.proofs.Runs.{known-read, runs, added}
-use Rattle.tape.proofs.Way.{Way, enter, bytes, earning, called, can-push, lost-here, ends-here, halts, not-counted, where-so, where-not}
+use Rattle.tape.proofs.Way.{On, Further, Way, enter, bytes, earning, called, can-push, lost-here, ends-here, halts, not-counted, where-so, where-not}
 use borrow.Author.Needs.{needs}
 use Rattle.contents.proofs.matcher_pattern.Statement.{statement}
 use Rattle.contents.proofs.matcher_pattern.Tie as tie
 
-abbrev Along : tie.Start → ℕ → List ℕ → Cursor → Type 0
-Along start = Way (rule.matcher-pattern (start .args .keep)) (start .args .script .now) (start .args .tape .now) (start .args .c)
+abbrev at-entry : (c : tie.Start) → Way (rule.matcher-pattern (c .args .keep)) (c .args .script .now) (c .args .tape .now) (c .args .c) 0 (c .args .tape .now) (c .args .c)
+at-entry c = enter (matcher-pattern-pays (c .args .keep)) (c .pre .0)
 
-abbrev at-file : (c : tie.After-file) → Along (c .before .before .before .before .before) 1 (c .before .before .before .before .before .args .tape .now) (c .file .given .0 .1 .0)
+abbrev at-file : (c : tie.After-file) → On (at-entry (c .before .before .before .before .before)) 1 (c .before .before .before .before .before .args .tape .now) (c .file .given .0 .1 .0)
 unfolding rule.matcher-pattern
-at-file c = earning _ token-pays (enter (matcher-pattern-pays (c .before .before .before .before .before .args .keep)) (c .before .before .before .before .before .pre .0)) refl (known taken (c .before .before .token .ensures) (c .file .given .1))
+at-file c = earning _ token-pays (at-entry (c .before .before .before .before .before)) refl (known taken (c .before .before .token .ensures) (c .file .given .1))
 
-abbrev at-opened : (c : tie.After-opened) → Along (c .before .before .before .before .before .before .before .before .before .before) 1 (c .before .before .before .before .before .before .before .before .before .before .args .tape .now) (c .opened .given .0 .0)
+abbrev at-opened : (c : tie.After-opened) → Further (at-file (c .before .before .before .before .before)) (c .opened .given .0 .0)
 unfolding rule.matcher-pattern
 at-opened c = bytes _ (at-file (c .before .before .before .before .before)) refl (known read (c .before .before .skip-word-skip .ensures) (c .opened .given .1))
 
-abbrev at-list : (c : tie.After-list) → Along (c .before .before .before .before .before .before .before .before .before .before .before .before .before .before .before .before .before) 1 (c .before .before .before .before .patterns .last .1 .0) (c .list .given .0 .1 .0)
+abbrev at-list : (c : tie.After-list) → On (at-opened (c .before .before .before .before .before .before .before)) 1 (c .before .before .before .before .patterns .last .1 .0) (c .list .given .0 .1 .0)
 unfolding rule.matcher-pattern
 at-list c = called _ (at-opened (c .before .before .before .before .before .before .before)) refl (known-read counted (c .before .before .before .before .patterns .ensures) (c .list .given .1)) (c .before .before .before .before .patterns .kept .1 .0)
 
-abbrev at-skipped : (c : tie.After-skipped) → Along (c .before .before .before .before .before .before .before .before .before .before .before .before .before .before .before .before .before .before .before .before .before) 1 (c .before .before .before .before .before .before .before .before .patterns .last .1 .0) (c .skipped .given .0 .0)
+abbrev at-skipped : (c : tie.After-skipped) → Further (at-list (c .before .before .before .before)) (c .skipped .given .0 .0)
 unfolding rule.matcher-pattern
 at-skipped c = bytes _ (at-list (c .before .before .before .before)) refl (known read (c .before .before .skip .ensures) (c .skipped .given .1))
 
-abbrev at-keyword-of : (c : tie.After-keyword-of) → Along (c .before .before .before .before .before .before .before .before .before .before .before .before .before .before .before .before .before .before .before .before .before .before .before) 1 (c .before .before .before .before .before .before .before .before .before .before .patterns .last .1 .0) (c .before .before .skipped .given .0 .0)
+abbrev at-keyword-of : (c : tie.After-keyword-of) → Further (at-skipped (c .before .before)) (c .before .before .skipped .given .0 .0)
 unfolding rule.matcher-pattern
 at-keyword-of c = bytes _ (at-skipped (c .before .before)) refl (keyed-token (known taken (c .before .before .before .before .before .before .before .before .before .before .before .before .before .before .before .before .before .before .before .before .token .ensures) (c .before .before .before .before .before .before .before .before .before .before .before .before .before .before .before .before .before .before .file .given .1)) (c .keyword-of .ensures))
 
-abbrev at-if1 : (c : tie.Then1) → Along (c .before .before .before .before .before .before .before .before .before .before .before .before .before .before .before .before .before .before .before .before .before .before .before .before) 1 (c .before .before .before .before .before .before .before .before .before .before .before .patterns .last .1 .0) (c .before .before .before .skipped .given .0 .0)
+abbrev at-if1 : (c : tie.Then1) → Further (at-keyword-of (c .before)) (c .before .before .before .skipped .given .0 .0)
 unfolding rule.matcher-pattern
 at-if1 c = where-so (at-keyword-of (c .before)) _ _ refl (star _ (c .if1 .taken))
 
-abbrev at-if1-left : (c : tie.Else1) → Along (c .before .before .before .before .before .before .before .before .before .before .before .before .before .before .before .before .before .before .before .before .before .before .before .before) 1 (c .before .before .before .before .before .before .before .before .before .before .before .patterns .last .1 .0) (c .before .before .before .skipped .given .0 .0)
+abbrev at-if1-left : (c : tie.Else1) → Further (at-keyword-of (c .before)) (c .before .before .before .skipped .given .0 .0)
 unfolding rule.matcher-pattern
 at-if1-left c = where-not (at-keyword-of (c .before)) _ _ refl (no-star _ (c .if1 .left))
 
@@ -57,7 +54,7 @@ matcher-pattern-spec =
     (λ c κs. search needs)
     (λ c. search needs)
     (λ c. search needs)
-    (λ c. lost-here _ (enter (matcher-pattern-pays (c .before .before .before .before .before .args .keep)) (c .before .before .before .before .before .pre .0)) refl (known taken (c .before .before .token .ensures) (c .enum-told .given .1)))
+    (λ c. lost-here _ (at-entry (c .before .before .before .before .before)) refl (known taken (c .before .before .token .ensures) (c .enum-told .given .1)))
     (λ c. search needs)
     (λ c κs. search needs)
     (λ c. search needs)

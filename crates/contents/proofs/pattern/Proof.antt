@@ -1,29 +1,26 @@
 -- A sort word tells which pattern follows.
 use mathlib.Core.Path.{refl, _∙_}
-use Prim.Native.Nat.{ℕ}
-use mathlib.Core.List.{List}
 use Rattle.rules.specs.Rule.{perhaps}
 use Rattle.rules.specs.Contents as rule
 use Rattle.rules.proofs.Commands.{pattern-pays}
-use Rattle.lex.specs.declared.Cursor.{Cursor}
 use Rattle.lex.proofs.Lexes.{known, opt-some, opt-none}
 use Rattle.operators.specs.Answers.{operated}
 use Rattle.tape.proofs.Runs.{runs}
-use Rattle.tape.proofs.Way.{Way, enter, bytes, ends-here}
+use Rattle.tape.proofs.Way.{Further, Way, enter, bytes, ends-here}
 use borrow.Author.Needs.{needs}
 use Rattle.contents.proofs.pattern.Statement.{statement}
 use Rattle.contents.proofs.pattern.Tie as tie
 
-abbrev Along : tie.Start → ℕ → List ℕ → Cursor → Type 0
-Along start = Way (rule.pattern) (start .args .script .now) (start .args .tape .now) (start .args .c)
+abbrev at-entry : (c : tie.Start) → Way (rule.pattern) (c .args .script .now) (c .args .tape .now) (c .args .c) 0 (c .args .tape .now) (c .args .c)
+at-entry c = enter pattern-pays (c .pre)
 
-abbrev at-enum-told : (c : tie.After-enum-told) → Along (c .before .before .before .before .before .before .before .before) 0 (c .before .before .before .before .before .before .before .before .args .tape .now) (c .before .before .before .before .before .before .before .before .args .c)
+abbrev at-enum-told : (c : tie.After-enum-told) → Further (at-entry (c .before .before .before .before .before .before .before .before)) (c .before .before .before .before .before .before .before .before .args .c)
 unfolding rule.pattern rule.sort perhaps
-at-enum-told c = bytes _ (enter (pattern-pays) (c .before .before .before .before .before .before .before .before .pre)) refl (opt-none (known operated (c .before .before .sign-of-three .ensures) (c .enum-told .given .1)))
+at-enum-told c = bytes _ (at-entry (c .before .before .before .before .before .before .before .before)) refl (opt-none (known operated (c .before .before .sign-of-three .ensures) (c .enum-told .given .1)))
 
-abbrev at-sort : (c : tie.After-sort) → Along (c .before .before .before .before .before .before .before .before) 0 (c .before .before .before .before .before .before .before .before .args .tape .now) (c .sort .given .0 .1 .0)
+abbrev at-sort : (c : tie.After-sort) → Further (at-entry (c .before .before .before .before .before .before .before .before)) (c .sort .given .0 .1 .0)
 unfolding rule.pattern rule.sort perhaps
-at-sort c = bytes _ (enter (pattern-pays) (c .before .before .before .before .before .before .before .before .pre)) refl (opt-some (known operated (c .before .before .sign-of-three .ensures) (c .sort .given .1)))
+at-sort c = bytes _ (at-entry (c .before .before .before .before .before .before .before .before)) refl (opt-some (known operated (c .before .before .sign-of-three .ensures) (c .sort .given .1)))
 
 pub pattern-spec : {M : Type 1} → statement M
 unfolding rule.pattern rule.sort perhaps

@@ -1,32 +1,29 @@
 -- The name pays for the record.
 use mathlib.Core.Path.{refl, _∙_}
-use Prim.Native.Nat.{ℕ}
-use mathlib.Core.List.{List}
 use Rattle.rules.specs.Bytes.{pattern-name}
 use Rattle.rules.specs.Contents as rule
 use Rattle.rules.proofs.Bytes.{pattern-name-pays}
 use Rattle.rules.proofs.Commands.{plain-pattern-pays}
 use Rattle.lex.specs.Contract.{read, taken}
-use Rattle.lex.specs.declared.Cursor.{Cursor}
 use Rattle.lex.proofs.Lexes.{known}
 use Rattle.tape.proofs.Runs.{added}
-use Rattle.tape.proofs.Way.{Way, enter, bytes, earning, can-push, lost-here, ends-here}
+use Rattle.tape.proofs.Way.{On, Further, Way, enter, bytes, earning, can-push, lost-here, ends-here}
 use borrow.Author.Needs.{needs}
 use Rattle.contents.proofs.plain_pattern.Statement.{statement}
 use Rattle.contents.proofs.plain_pattern.Tie as tie
 
-abbrev Along : tie.Start → ℕ → List ℕ → Cursor → Type 0
-Along start = Way (rule.plain-pattern) (start .args .script .now) (start .args .tape .now) (start .args .c)
+abbrev at-entry : (c : tie.Start) → Way (rule.plain-pattern) (c .args .script .now) (c .args .tape .now) (c .args .c) 0 (c .args .tape .now) (c .args .c)
+at-entry c = enter plain-pattern-pays (c .pre)
 
-abbrev at-before2 : (c : tie.After-before2) → Along (c .before .before .before .before .before) 0 (c .before .before .before .before .before .args .tape .now) (c .before2 .given .0 .0)
+abbrev at-before2 : (c : tie.After-before2) → Further (at-entry (c .before .before .before .before .before)) (c .before2 .given .0 .0)
 unfolding rule.plain-pattern pattern-name
-at-before2 c = bytes _ (enter (plain-pattern-pays) (c .before .before .before .before .before .pre)) refl (known read (c .before .before .skip .ensures) (c .before2 .given .1))
+at-before2 c = bytes _ (at-entry (c .before .before .before .before .before)) refl (known read (c .before .before .skip .ensures) (c .before2 .given .1))
 
-abbrev at-name : (c : tie.After-name) → Along (c .before .before .before .before .before .before .before .before .before) 1 (c .before .before .before .before .before .before .before .before .before .args .tape .now) (c .name .given .0 .1 .0)
+abbrev at-name : (c : tie.After-name) → On (at-before2 (c .before .before .before .before)) 1 (c .before .before .before .before .before .before .before .before .before .args .tape .now) (c .name .given .0 .1 .0)
 unfolding rule.plain-pattern pattern-name
 at-name c = earning _ pattern-name-pays (at-before2 (c .before .before .before .before)) refl (known taken (c .before .before .take-while .ensures) (c .name .given .1))
 
-abbrev at-behind : (c : tie.After-behind) → Along (c .before .before .before .before .before .before .before .before .before .before .before .before .before) 1 (c .before .before .before .before .before .before .before .before .before .before .before .before .before .args .tape .now) (c .behind .given .0 .0)
+abbrev at-behind : (c : tie.After-behind) → Further (at-name (c .before .before .before .before)) (c .behind .given .0 .0)
 unfolding rule.plain-pattern pattern-name
 at-behind c = bytes _ (at-name (c .before .before .before .before)) refl (known read (c .before .before .skip2 .ensures) (c .behind .given .1))
 
@@ -38,7 +35,7 @@ plain-pattern-spec =
     (λ c κs. search needs)
     (λ c. search needs)
     (λ c. search needs)
-    (λ c. lost-here _ (enter (plain-pattern-pays) (c .before .before .before .before .before .pre)) refl (known read (c .before .before .skip .ensures) (c .enum-told .given .1)))
+    (λ c. lost-here _ (at-entry (c .before .before .before .before .before)) refl (known read (c .before .before .skip .ensures) (c .enum-told .given .1)))
     (λ c κs. search needs)
     (λ c. search needs)
     (λ c. search needs)

@@ -1,31 +1,28 @@
 -- AT is tried first.
 use mathlib.Core.Path.{refl, _∙_}
-use Prim.Native.Nat.{ℕ}
-use mathlib.Core.List.{List}
 use Rattle.rules.specs.Rule.{if_then_else_}
 use Rattle.rules.specs.Expressions.{expression}
 use Rattle.rules.specs.Sections as rule
 use Rattle.rules.proofs.Expressions.{expression-pays}
 use Rattle.rules.proofs.Commands.{clause-pays}
 use Rattle.lex.specs.Contract.{read}
-use Rattle.lex.specs.declared.Cursor.{Cursor}
 use Rattle.lex.proofs.Lexes.{known, opt-some, opt-none}
 use Rattle.tape.proofs.Runs.{runs}
-use Rattle.tape.proofs.Way.{Way, enter, bytes, ends-here}
+use Rattle.tape.proofs.Way.{Further, Way, enter, bytes, ends-here}
 use borrow.Author.Needs.{needs}
 use Rattle.sections.proofs.clause.Statement.{statement}
 use Rattle.sections.proofs.clause.Tie as tie
 
-abbrev Along : tie.Start → ℕ → List ℕ → Cursor → Type 0
-Along start = Way (rule.clause (expression (start .args .mode) (start .args .left))) (start .args .script .now) (start .args .tape .now) (start .args .c)
+abbrev at-entry : (c : tie.Start) → Way (rule.clause (expression (c .args .mode) (c .args .left))) (c .args .script .now) (c .args .tape .now) (c .args .c) 0 (c .args .tape .now) (c .args .c)
+at-entry c = enter (clause-pays (expression-pays _ _)) (c .pre)
 
-abbrev at-enum-told : (c : tie.After-enum-told) → Along (c .before .before .before .before .before .before) 0 (c .before .before .before .before .before .before .args .tape .now) (c .before .before .before .before .before .before .args .c)
+abbrev at-enum-told : (c : tie.After-enum-told) → Further (at-entry (c .before .before .before .before .before .before)) (c .before .before .before .before .before .before .args .c)
 unfolding rule.clause if_then_else_
-at-enum-told c = bytes _ (enter (clause-pays (expression-pays (c .before .before .before .before .before .before .args .mode) (c .before .before .before .before .before .before .args .left))) (c .before .before .before .before .before .before .pre)) refl (opt-none (known read (c .before .before .word .ensures) (c .enum-told .given .1)))
+at-enum-told c = bytes _ (at-entry (c .before .before .before .before .before .before)) refl (opt-none (known read (c .before .before .word .ensures) (c .enum-told .given .1)))
 
-abbrev at-at : (c : tie.After-at) → Along (c .before .before .before .before .before .before) 0 (c .before .before .before .before .before .before .args .tape .now) (c .at .given .0 .0)
+abbrev at-at : (c : tie.After-at) → Further (at-entry (c .before .before .before .before .before .before)) (c .at .given .0 .0)
 unfolding rule.clause if_then_else_
-at-at c = bytes _ (enter (clause-pays (expression-pays (c .before .before .before .before .before .before .args .mode) (c .before .before .before .before .before .before .args .left))) (c .before .before .before .before .before .before .pre)) refl (opt-some (known read (c .before .before .word .ensures) (c .at .given .1)))
+at-at c = bytes _ (at-entry (c .before .before .before .before .before .before)) refl (opt-some (known read (c .before .before .word .ensures) (c .at .given .1)))
 
 pub clause-spec : {M : Type 1} → statement M
 unfolding rule.clause if_then_else_

@@ -1,19 +1,17 @@
 -- The loop is the rule's: what is left is the rule of the turns that are left.
 use mathlib.Core.Path.{_≡_, refl, sym, ap, _∙_}
-use Prim.Native.Nat.{ℕ, _+_, _-_}
+use Prim.Native.Nat.{_+_, _-_}
 use native.Mathlib.Omega.{arith}
 use native.Mathlib.Numerals.{add-one}
-use mathlib.Core.List.{List}
 use lib.ListN.{length}
 use Rattle.rules.specs.Expressions.{expression}
 use Rattle.rules.specs.Sections as rule
 use Rattle.rules.proofs.Expressions.{expression-pays}
 use Rattle.rules.proofs.Commands.{clauses-pays}
-use Rattle.lex.specs.declared.Cursor.{Cursor}
 use Rattle.lex.proofs.Lexes.{given, refused, asked, sized}
 use Rattle.tape.specs.Contract.{Reads, stepped}
 use Rattle.tape.proofs.Runs.{known-read, runs, as-bytes, as-lost}
-use Rattle.tape.proofs.Way.{Way, Loop, enter, bytes, called, ends-here, halts, not-stepped, where-so, where-not, turn, spent}
+use Rattle.tape.proofs.Way.{On, Further, Way, Loop, enter, bytes, called, ends-here, halts, not-stepped, where-so, where-not, turn, spent}
 use borrow.Author.Needs.{needs}
 use Rattle.sections.proofs.clauses.Statement.{statement}
 use Rattle.sections.proofs.clauses.Tie as tie
@@ -24,26 +22,26 @@ Inv-loop script tape₀ mode left at₀ k₀ turns₀ mark tape at k turns = Loo
 abbrev μ-loop : tie.MeasureT-loop
 μ-loop script tape₀ mode left at₀ k₀ turns₀ mark tape at k turns = turns
 
-abbrev Along : tie.Start Inv-loop μ-loop → ℕ → List ℕ → Cursor → Type 0
-Along start = Way (rule.clauses (expression (start .args .mode) (start .args .left))) (start .args .script .now) (start .args .tape .now) (start .args .c)
+abbrev at-entry : (c : tie.Start Inv-loop μ-loop) → Way (rule.clauses (expression (c .args .mode) (c .args .left))) (c .args .script .now) (c .args .tape .now) (c .args .c) 0 (c .args .tape .now) (c .args .c)
+at-entry c = enter (clauses-pays (expression-pays _ _)) (c .pre)
 
-abbrev at-turn : (c : tie.In-loop Inv-loop μ-loop) → Along (c .before .before .before .before) 0 (c .before .loop .tape) (c .before .loop .at)
+abbrev at-turn : (c : tie.In-loop Inv-loop μ-loop) → Further (c .before .loop .inv .0 .way) (c .before .loop .at)
 unfolding rule.clauses rule.clauses-from
 at-turn c = turn (c .before .loop .inv .0 .way) (λ n. rule.clauses-from (expression (c .before .before .before .before .args .mode) (c .before .before .before .before .args .left)) n (c .before .loop .k)) (c .before .loop .inv .0 .left) (c .loop-test .taken)
 
-abbrev at-starts : (c : tie.After-starts Inv-loop μ-loop) → Along (c .before .before .before .before .before .before) 0 (c .before .before .before .loop .tape) (c .before .before .before .loop .at)
+abbrev at-starts : (c : tie.After-starts Inv-loop μ-loop) → Further (at-turn (c .before .before)) (c .before .before .before .loop .at)
 unfolding rule.clauses rule.clauses-from
 at-starts c = bytes _ (at-turn (c .before .before)) refl (asked "{" (c .starts .ensures))
 
-abbrev at-if1 : (c : tie.Then1 Inv-loop μ-loop) → Along (c .before .before .before .before .before .before .before) 0 (c .before .before .before .before .loop .tape) (c .before .before .before .before .loop .at)
+abbrev at-if1 : (c : tie.Then1 Inv-loop μ-loop) → Further (at-starts (c .before)) (c .before .before .before .before .loop .at)
 unfolding rule.clauses rule.clauses-from
 at-if1 c = where-so (at-starts (c .before)) _ _ refl (c .if1 .taken)
 
-abbrev at-if1-left : (c : tie.Else1 Inv-loop μ-loop) → Along (c .before .before .before .before .before .before .before) 0 (c .before .before .before .before .loop .tape) (c .before .before .before .before .loop .at)
+abbrev at-if1-left : (c : tie.Else1 Inv-loop μ-loop) → Further (at-starts (c .before)) (c .before .before .before .before .loop .at)
 unfolding rule.clauses rule.clauses-from
 at-if1-left c = where-not (at-starts (c .before)) _ _ refl (c .if1 .left)
 
-abbrev at-item : (c : tie.After-item Inv-loop μ-loop) → Along (c .before .before .before .before .before .before .before .before .before .before .before .before .before) 0 (c .before .before .before .before .clause .last .1 .0) (c .item .given .0 .0)
+abbrev at-item : (c : tie.After-item Inv-loop μ-loop) → On (at-if1-left (c .before .before .before .before .before .before)) 0 (c .before .before .before .before .clause .last .1 .0) (c .item .given .0 .0)
 unfolding rule.clauses rule.clauses-from
 at-item c = called _ (at-if1-left (c .before .before .before .before .before .before)) refl (known-read stepped (c .before .before .before .before .clause .ensures) (c .item .given .1)) (c .before .before .before .before .clause .kept .1 .0)
 
@@ -55,7 +53,7 @@ clauses-spec =
     Inv-loop
     μ-loop
     (λ c. search needs)
-    (λ c. (record { way = bytes _ (enter (clauses-pays (expression-pays (c .before .before .args .mode) (c .before .before .args .left))) (c .before .before .pre)) refl sized; left = ap (λ n. rule.clauses-from (expression (c .before .before .args .mode) (c .before .before .args .left)) n 0) (sym (add-one (length (c .before .before .args .script .now)))) }, omega arith))
+    (λ c. (record { way = bytes _ (at-entry (c .before .before)) refl sized; left = ap (λ n. rule.clauses-from (expression (c .before .before .args .mode) (c .before .before .args .left)) n 0) (sym (add-one (length (c .before .before .args .script .now)))) }, omega arith))
     (λ c. search needs)
     (λ c κs. search needs)
     (λ c. (at-if1 c) .size)

@@ -1,36 +1,33 @@
 -- The sign before it pays for the record.
 use mathlib.Core.Path.{refl, _∙_}
-use Prim.Native.Nat.{ℕ}
-use mathlib.Core.List.{List}
 use borrow.Author.Tests.{eq-eqb, ne-eqb}
 use Rattle.rules.specs.Expressions.{expression}
 use Rattle.rules.specs.Sections as rule
 use Rattle.lex.specs.Contract.{taken}
-use Rattle.lex.specs.declared.Cursor.{Cursor}
 use Rattle.lex.proofs.Lexes.{known}
 use Rattle.tape.specs.Contract.{stepped}
 use Rattle.tape.proofs.Runs.{known-read, runs, added}
-use Rattle.tape.proofs.Way.{Short, enter-short, bytes, called, can-push, lost-here, ends-here, halts, not-stepped, as-it-is, where-so, where-not}
+use Rattle.tape.proofs.Way.{On, Further, Short, enter-short, bytes, called, can-push, lost-here, ends-here, halts, not-stepped, as-it-is, where-so, where-not}
 use borrow.Author.Needs.{needs}
 use Rattle.sections.proofs.ending.Statement.{statement}
 use Rattle.sections.proofs.ending.Tie as tie
 
-abbrev Along : tie.Start → ℕ → List ℕ → Cursor → Type 0
-Along start = Short (rule.ending (expression (start .args .mode) (start .args .left)) (start .args .kind)) (start .args .script .now) (start .args .tape .now) (start .args .c)
+abbrev at-entry : (c : tie.Start) → Short (rule.ending (expression (c .args .mode) (c .args .left)) (c .args .kind)) (c .args .script .now) (c .args .tape .now) (c .args .c) 1 (c .args .tape .now) (c .args .c)
+at-entry c = enter-short (c .pre .0) (c .pre .1)
 
-abbrev at-if1 : (c : tie.Then1) → Along (c .before .before .before) 1 (c .before .before .before .args .tape .now) (c .before .before .before .args .c)
+abbrev at-if1 : (c : tie.Then1) → Further (at-entry (c .before .before .before)) (c .before .before .before .args .c)
 unfolding rule.ending rule.fill
-at-if1 c = where-so (enter-short (c .before .before .before .pre .0) (c .before .before .before .pre .1)) _ _ refl (eq-eqb _ _ (c .if1 .taken))
+at-if1 c = where-so (at-entry (c .before .before .before)) _ _ refl (eq-eqb _ _ (c .if1 .taken))
 
-abbrev at-value : (c : tie.After-value) → Along (c .before .before .before .before .before .before .before .before .before) 1 (c .before .before .before .before .expression .last .1 .0) (c .value .given .0 .0)
+abbrev at-value : (c : tie.After-value) → On (at-if1 (c .before .before .before .before .before .before)) 1 (c .before .before .before .before .expression .last .1 .0) (c .value .given .0 .0)
 unfolding rule.ending rule.fill
 at-value c = called _ (at-if1 (c .before .before .before .before .before .before)) refl (known-read stepped (c .before .before .before .before .expression .ensures) (c .value .given .1)) (c .before .before .before .before .expression .kept .1 .0)
 
-abbrev at-if1-left : (c : tie.Else1) → Along (c .before .before .before) 1 (c .before .before .before .args .tape .now) (c .before .before .before .args .c)
+abbrev at-if1-left : (c : tie.Else1) → Further (at-entry (c .before .before .before)) (c .before .before .before .args .c)
 unfolding rule.ending rule.fill
-at-if1-left c = where-not (enter-short (c .before .before .before .pre .0) (c .before .before .before .pre .1)) _ _ refl (ne-eqb _ _ (c .if1 .left))
+at-if1-left c = where-not (at-entry (c .before .before .before)) _ _ refl (ne-eqb _ _ (c .if1 .left))
 
-abbrev at-name : (c : tie.After-name) → Along (c .before .before .before .before .before .before) 1 (c .before .before .before .before .before .before .args .tape .now) (c .name .given .0 .1 .0)
+abbrev at-name : (c : tie.After-name) → Further (at-if1-left (c .before .before .before)) (c .name .given .0 .1 .0)
 unfolding rule.ending rule.fill
 at-name c = bytes _ (at-if1-left (c .before .before .before)) refl (known taken (c .before .before .token .ensures) (c .name .given .1))
 

@@ -1,34 +1,31 @@
 -- The name before it pays for the last record.
 use mathlib.Core.Path.{refl, _∙_}
-use Prim.Native.Nat.{ℕ}
 use native.Mathlib.Omega.{arith}
-use mathlib.Core.List.{List}
 use Rattle.rules.specs.Expressions.{expression}
 use Rattle.rules.specs.Sections as rule
 use Rattle.lex.specs.Contract.{read}
-use Rattle.lex.specs.declared.Cursor.{Cursor}
 use Rattle.lex.proofs.Lexes.{known}
 use Rattle.tape.specs.Contract.{counted}
 use Rattle.tape.proofs.Runs.{known-read, runs}
-use Rattle.tape.proofs.Way.{Short, enter-short, bytes, called, lost-here, ends-here, halts, not-counted}
+use Rattle.tape.proofs.Way.{On, Further, Short, enter-short, bytes, called, lost-here, ends-here, halts, not-counted}
 use Rattle.sections.specs.Answers.{headed}
 use Rattle.sections.proofs.Unread.{not-headed}
 use borrow.Author.Needs.{needs}
 use Rattle.sections.proofs.section.Statement.{statement}
 use Rattle.sections.proofs.section.Tie as tie
 
-abbrev Along : tie.Start → ℕ → List ℕ → Cursor → Type 0
-Along start = Short (rule.section (expression (start .args .mode) (start .args .left)) (start .args .name)) (start .args .script .now) (start .args .tape .now) (start .args .c)
+abbrev at-entry : (c : tie.Start) → Short (rule.section (expression (c .args .mode) (c .args .left)) (c .args .name)) (c .args .script .now) (c .args .tape .now) (c .args .c) 1 (c .args .tape .now) (c .args .c)
+at-entry c = enter-short (c .pre .0) (c .pre .1)
 
-abbrev at-head : (c : tie.After-head) → Along (c .before .before .before .before .before .before .before .before) 1 (c .before .before .before .before .heading .last .1 .0) (c .head .given .0 .1 .0)
+abbrev at-head : (c : tie.After-head) → On (at-entry (c .before .before .before .before .before .before .before .before)) 1 (c .before .before .before .before .heading .last .1 .0) (c .head .given .0 .1 .0)
 unfolding rule.section
-at-head c = called _ (enter-short (c .before .before .before .before .before .before .before .before .pre .0) (c .before .before .before .before .before .before .before .before .pre .1)) refl (known-read headed (c .before .before .before .before .heading .ensures) (c .head .given .1)) (c .before .before .before .before .heading .kept .1 .0)
+at-head c = called _ (at-entry (c .before .before .before .before .before .before .before .before)) refl (known-read headed (c .before .before .before .before .heading .ensures) (c .head .given .1)) (c .before .before .before .before .heading .kept .1 .0)
 
-abbrev at-colon : (c : tie.After-colon) → Along (c .before .before .before .before .before .before .before .before .before .before .before .before .before) 1 (c .before .before .before .before .before .before .before .before .before .heading .last .1 .0) (c .colon .given .0 .0)
+abbrev at-colon : (c : tie.After-colon) → Further (at-head (c .before .before .before .before .before)) (c .colon .given .0 .0)
 unfolding rule.section
 at-colon c = bytes _ (at-head (c .before .before .before .before .before)) refl (known read (c .before .before .word-skip .ensures) (c .colon .given .1))
 
-abbrev at-list : (c : tie.After-list) → Along (c .before .before .before .before .before .before .before .before .before .before .before .before .before .before .before .before .before .before .before .before) 1 (c .before .before .before .before .clauses .last .1 .0) (c .list .given .0 .1 .0)
+abbrev at-list : (c : tie.After-list) → On (at-colon (c .before .before .before .before .before .before .before)) 1 (c .before .before .before .before .clauses .last .1 .0) (c .list .given .0 .1 .0)
 unfolding rule.section
 at-list c = called _ (at-colon (c .before .before .before .before .before .before .before)) refl (known-read counted (c .before .before .before .before .clauses .ensures) (c .list .given .1)) (c .before .before .before .before .clauses .kept .1 .0)
 
@@ -41,7 +38,7 @@ section-spec =
     (λ c. search needs)
     (λ c κs. search needs)
     (λ c. c .before .before .before .before .heading .kept .1 .0)
-    (λ c. halts _ (enter-short (c .before .before .before .before .before .before .before .before .pre .0) (c .before .before .before .before .before .before .before .before .pre .1)) refl (not-headed (c .before .before .before .before .heading .result) (c .before .match .keys2)) (runs (c .before .before .before .before .heading .ensures)) _ (c .step .ensures))
+    (λ c. halts _ (at-entry (c .before .before .before .before .before .before .before .before)) refl (not-headed (c .before .before .before .before .heading .result) (c .before .match .keys2)) (runs (c .before .before .before .before .heading .ensures)) _ (c .step .ensures))
     (λ c. search needs)
     (λ c κs. search needs)
     (λ c. search needs)

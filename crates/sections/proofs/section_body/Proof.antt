@@ -1,34 +1,31 @@
 -- The brace pays for one of the two records.
 use mathlib.Core.Path.{refl, _∙_}
-use Prim.Native.Nat.{ℕ}
 use native.Mathlib.Omega.{arith}
-use mathlib.Core.List.{List}
 use Rattle.rules.specs.Text.{ascii}
 use Rattle.rules.specs.Expressions.{expression}
 use Rattle.rules.specs.Sections as rule
 use Rattle.rules.proofs.Bytes.{tag-skip-earns}
 use Rattle.lex.specs.Contract.{read}
-use Rattle.lex.specs.declared.Cursor.{Cursor}
 use Rattle.lex.proofs.Lexes.{known}
 use Rattle.tape.specs.Contract.{counted}
 use Rattle.tape.proofs.Runs.{known-read, runs}
-use Rattle.tape.proofs.Way.{Short, enter-short, bytes, earning, called, lost-here, ends-here, halts, not-counted}
+use Rattle.tape.proofs.Way.{On, Further, Short, enter-short, bytes, earning, called, lost-here, ends-here, halts, not-counted}
 use borrow.Author.Needs.{needs}
 use Rattle.sections.proofs.section_body.Statement.{statement}
 use Rattle.sections.proofs.section_body.Tie as tie
 
-abbrev Along : tie.Start → ℕ → List ℕ → Cursor → Type 0
-Along start = Short (rule.section-body (expression (start .args .mode) (start .args .left)) (start .args .name) (start .args .head) (start .args .before)) (start .args .script .now) (start .args .tape .now) (start .args .c)
+abbrev at-entry : (c : tie.Start) → Short (rule.section-body (expression (c .args .mode) (c .args .left)) (c .args .name) (c .args .head) (c .args .before)) (c .args .script .now) (c .args .tape .now) (c .args .c) 1 (c .args .tape .now) (c .args .c)
+at-entry c = enter-short (c .pre .0) (c .pre .1)
 
-abbrev at-opened : (c : tie.After-opened) → Along (c .before .before .before .before .before .before) 2 (c .before .before .before .before .before .before .args .tape .now) (c .opened .given .0 .0)
+abbrev at-opened : (c : tie.After-opened) → On (at-entry (c .before .before .before .before .before .before)) 2 (c .before .before .before .before .before .before .args .tape .now) (c .opened .given .0 .0)
 unfolding rule.section-body
-at-opened c = earning _ (tag-skip-earns (ascii "{") (omega arith)) (enter-short (c .before .before .before .before .before .before .pre .0) (c .before .before .before .before .before .before .pre .1)) refl (known read (c .before .before .word-skip .ensures) (c .opened .given .1))
+at-opened c = earning _ (tag-skip-earns (ascii "{") (omega arith)) (at-entry (c .before .before .before .before .before .before)) refl (known read (c .before .before .word-skip .ensures) (c .opened .given .1))
 
-abbrev at-list : (c : tie.After-list) → Along (c .before .before .before .before .before .before .before .before .before .before .before .before .before) 2 (c .before .before .before .before .contents .last .1 .0) (c .list .given .0 .1 .0)
+abbrev at-list : (c : tie.After-list) → On (at-opened (c .before .before .before .before .before .before .before)) 2 (c .before .before .before .before .contents .last .1 .0) (c .list .given .0 .1 .0)
 unfolding rule.section-body
 at-list c = called _ (at-opened (c .before .before .before .before .before .before .before)) refl (known-read counted (c .before .before .before .before .contents .ensures) (c .list .given .1)) (c .before .before .before .before .contents .kept .1 .0)
 
-abbrev at-skipped : (c : tie.After-skipped) → Along (c .before .before .before .before .before .before .before .before .before .before .before .before .before .before .before .before .before) 2 (c .before .before .before .before .before .before .before .before .contents .last .1 .0) (c .skipped .given .0 .0)
+abbrev at-skipped : (c : tie.After-skipped) → Further (at-list (c .before .before .before .before)) (c .skipped .given .0 .0)
 unfolding rule.section-body
 at-skipped c = bytes _ (at-list (c .before .before .before .before)) refl (known read (c .before .before .skip .ensures) (c .skipped .given .1))
 
@@ -41,7 +38,7 @@ section-body-spec =
     (λ c κs. search needs)
     (λ c. search needs)
     (λ c. search needs)
-    (λ c. lost-here _ (enter-short (c .before .before .before .before .before .before .pre .0) (c .before .before .before .before .before .before .pre .1)) refl (known read (c .before .before .word-skip .ensures) (c .enum-told .given .1)))
+    (λ c. lost-here _ (at-entry (c .before .before .before .before .before .before)) refl (known read (c .before .before .word-skip .ensures) (c .enum-told .given .1)))
     (λ c κs. (at-opened (c .before .before)) .room)
     (λ c. search needs)
     (λ c κs. search needs)

@@ -1,8 +1,6 @@
 -- The word tells which item follows; the name pays for its last record.
 use mathlib.Core.Path.{refl, ap, _∙_}
-use Prim.Native.Nat.{ℕ}
 use native.Mathlib.Omega.{arith}
-use mathlib.Core.List.{List}
 use borrow.Author.Tests.{ne-eqb}
 use Rattle.rules.specs.Text.{same}
 use Rattle.rules.specs.Keywords.{keyword-of, _is_, numbered, keywords}
@@ -12,27 +10,26 @@ use Rattle.rules.proofs.Bytes.{token-pays}
 use Rattle.rules.proofs.Expressions.{expression-pays}
 use Rattle.rules.proofs.Commands.{section-command-pays}
 use Rattle.lex.specs.Contract.{read, taken}
-use Rattle.lex.specs.declared.Cursor.{Cursor}
 use Rattle.lex.proofs.Lexes.{known}
 use Rattle.lex.proofs.Name.{keyed-token}
 use Rattle.tape.proofs.Runs.{runs}
-use Rattle.tape.proofs.Way.{Way, enter, bytes, earning, lost-here, ends-here, where-so, where-not}
+use Rattle.tape.proofs.Way.{On, Further, Way, enter, bytes, earning, lost-here, ends-here, where-so, where-not}
 use borrow.Author.Needs.{needs}
 use Rattle.sections.proofs.section_command.Statement.{statement}
 use Rattle.sections.proofs.section_command.Tie as tie
 
-abbrev Along : tie.Start → ℕ → List ℕ → Cursor → Type 0
-Along start = Way (rule.section-command (expression (start .args .mode) (start .args .left))) (start .args .script .now) (start .args .tape .now) (start .args .c)
+abbrev at-entry : (c : tie.Start) → Way (rule.section-command (expression (c .args .mode) (c .args .left))) (c .args .script .now) (c .args .tape .now) (c .args .c) 0 (c .args .tape .now) (c .args .c)
+at-entry c = enter (section-command-pays (expression-pays _ _)) (c .pre)
 
-abbrev at-name : (c : tie.After-name) → Along (c .before .before .before .before .before) 1 (c .before .before .before .before .before .args .tape .now) (c .name .given .0 .1 .0)
+abbrev at-name : (c : tie.After-name) → On (at-entry (c .before .before .before .before .before)) 1 (c .before .before .before .before .before .args .tape .now) (c .name .given .0 .1 .0)
 unfolding rule.section-command
-at-name c = earning _ token-pays (enter (section-command-pays (expression-pays (c .before .before .before .before .before .args .mode) (c .before .before .before .before .before .args .left))) (c .before .before .before .before .before .pre)) refl (known taken (c .before .before .token .ensures) (c .name .given .1))
+at-name c = earning _ token-pays (at-entry (c .before .before .before .before .before)) refl (known taken (c .before .before .token .ensures) (c .name .given .1))
 
-abbrev at-skipped : (c : tie.After-skipped) → Along (c .before .before .before .before .before .before .before .before .before) 1 (c .before .before .before .before .before .before .before .before .before .args .tape .now) (c .skipped .given .0 .0)
+abbrev at-skipped : (c : tie.After-skipped) → Further (at-name (c .before .before .before .before)) (c .skipped .given .0 .0)
 unfolding rule.section-command
 at-skipped c = bytes _ (at-name (c .before .before .before .before)) refl (known read (c .before .before .skip .ensures) (c .skipped .given .1))
 
-abbrev at-keyword-of : (c : tie.After-keyword-of) → Along (c .before .before .before .before .before .before .before .before .before .before .before) 1 (c .before .before .before .before .before .before .before .before .before .before .before .args .tape .now) (c .before .before .skipped .given .0 .0)
+abbrev at-keyword-of : (c : tie.After-keyword-of) → Further (at-skipped (c .before .before)) (c .before .before .skipped .given .0 .0)
 unfolding rule.section-command
 at-keyword-of c = bytes _ (at-skipped (c .before .before)) refl (keyed-token (known taken (c .before .before .before .before .before .before .before .before .token .ensures) (c .before .before .before .before .before .before .name .given .1)) (c .keyword-of .ensures))
 
@@ -44,7 +41,7 @@ section-command-spec =
     (λ c κs. search needs)
     (λ c. search needs)
     (λ c. search needs)
-    (λ c. lost-here _ (enter (section-command-pays (expression-pays (c .before .before .before .before .before .args .mode) (c .before .before .before .before .before .args .left))) (c .before .before .before .before .before .pre)) refl (known taken (c .before .before .token .ensures) (c .enum-told .given .1)))
+    (λ c. lost-here _ (at-entry (c .before .before .before .before .before)) refl (known taken (c .before .before .token .ensures) (c .enum-told .given .1)))
     (λ c κs. search needs)
     (λ c. search needs)
     (λ c. search needs)

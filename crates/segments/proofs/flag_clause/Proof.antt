@@ -1,40 +1,37 @@
 -- The word before it pays for the record.
 use mathlib.Core.Path.{refl, _∙_}
-use Prim.Native.Nat.{ℕ}
-use mathlib.Core.List.{List}
 use borrow.Author.Tests.{eq-eqb, ne-eqb}
 use Rattle.rules.specs.Expressions.{expression}
 use Rattle.rules.specs.Commands as rule
 use Rattle.lex.specs.Contract.{read}
-use Rattle.lex.specs.declared.Cursor.{Cursor}
 use Rattle.lex.proofs.Lexes.{known, given}
 use Rattle.tape.specs.Contract.{stepped}
 use Rattle.tape.proofs.Runs.{known-read, runs, added, as-bytes}
-use Rattle.tape.proofs.Way.{Short, enter-short, bytes, called, can-push, lost-here, ends-here, halts, not-stepped, as-it-is, where-so, where-not}
+use Rattle.tape.proofs.Way.{On, Further, Short, enter-short, bytes, called, can-push, lost-here, ends-here, halts, not-stepped, as-it-is, where-so, where-not}
 use borrow.Author.Needs.{needs}
 use Rattle.segments.proofs.flag_clause.Statement.{statement}
 use Rattle.segments.proofs.flag_clause.Tie as tie
 
-abbrev Along : tie.Start → ℕ → List ℕ → Cursor → Type 0
-Along start = Short (rule.flag-clause (expression (start .args .mode) (start .args .left)) (start .args .which)) (start .args .script .now) (start .args .tape .now) (start .args .c)
+abbrev at-entry : (c : tie.Start) → Short (rule.flag-clause (expression (c .args .mode) (c .args .left)) (c .args .which)) (c .args .script .now) (c .args .tape .now) (c .args .c) 1 (c .args .tape .now) (c .args .c)
+at-entry c = enter-short (c .pre .0) (c .pre .1)
 
-abbrev at-if1 : (c : tie.Then1) → Along (c .before .before .before) 1 (c .before .before .before .args .tape .now) (c .before .before .before .args .c)
+abbrev at-if1 : (c : tie.Then1) → Further (at-entry (c .before .before .before)) (c .before .before .before .args .c)
 unfolding rule.flag-clause
-at-if1 c = where-not (enter-short (c .before .before .before .pre .0) (c .before .before .before .pre .1)) _ _ refl (ne-eqb _ _ (c .if1 .taken))
+at-if1 c = where-not (at-entry (c .before .before .before)) _ _ refl (ne-eqb _ _ (c .if1 .taken))
 
-abbrev at-if1-left : (c : tie.Else1) → Along (c .before .before .before) 1 (c .before .before .before .args .tape .now) (c .before .before .before .args .c)
+abbrev at-if1-left : (c : tie.Else1) → Further (at-entry (c .before .before .before)) (c .before .before .before .args .c)
 unfolding rule.flag-clause
-at-if1-left c = where-so (enter-short (c .before .before .before .pre .0) (c .before .before .before .pre .1)) _ _ refl (eq-eqb _ _ (c .if1 .left))
+at-if1-left c = where-so (at-entry (c .before .before .before)) _ _ refl (eq-eqb _ _ (c .if1 .left))
 
-abbrev at-opened : (c : tie.After-opened) → Along (c .before .before .before .before .before .before .before) 1 (c .before .before .before .before .before .before .before .args .tape .now) (c .opened .given .0 .0)
+abbrev at-opened : (c : tie.After-opened) → Further (at-if1-left (c .before .before .before .before)) (c .opened .given .0 .0)
 unfolding rule.flag-clause
 at-opened c = bytes _ (at-if1-left (c .before .before .before .before)) refl (known read (c .before .before .word .ensures) (c .opened .given .1))
 
-abbrev at-value : (c : tie.After-value) → Along (c .before .before .before .before .before .before .before .before .before .before .before .before .before .before) 1 (c .before .before .before .before .expression .last .1 .0) (c .value .given .0 .0)
+abbrev at-value : (c : tie.After-value) → On (at-opened (c .before .before .before .before .before .before .before)) 1 (c .before .before .before .before .expression .last .1 .0) (c .value .given .0 .0)
 unfolding rule.flag-clause
 at-value c = called _ (at-opened (c .before .before .before .before .before .before .before)) refl (known-read stepped (c .before .before .before .before .expression .ensures) (c .value .given .1)) (c .before .before .before .before .expression .kept .1 .0)
 
-abbrev at-closed : (c : tie.After-closed) → Along (c .before .before .before .before .before .before .before .before .before .before .before .before .before .before .before .before .before .before .before) 1 (c .before .before .before .before .before .before .before .before .before .expression .last .1 .0) (c .closed .given .0 .0)
+abbrev at-closed : (c : tie.After-closed) → Further (at-value (c .before .before .before .before .before)) (c .closed .given .0 .0)
 unfolding rule.flag-clause
 at-closed c = bytes _ (at-value (c .before .before .before .before .before)) refl (known read (c .before .before .word2 .ensures) (c .closed .given .1))
 

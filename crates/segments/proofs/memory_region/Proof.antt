@@ -1,42 +1,39 @@
 -- The name pays for the record.
 use mathlib.Core.Path.{refl, _∙_}
-use Prim.Native.Nat.{ℕ}
-use mathlib.Core.List.{List}
 use Rattle.rules.specs.Expressions.{expression}
 use Rattle.rules.specs.Commands as rule
 use Rattle.rules.proofs.Bytes.{token-pays}
 use Rattle.rules.proofs.Expressions.{expression-pays}
 use Rattle.rules.proofs.Commands.{memory-region-pays}
 use Rattle.lex.specs.Contract.{read, taken}
-use Rattle.lex.specs.declared.Cursor.{Cursor}
 use Rattle.lex.proofs.Lexes.{known}
 use Rattle.tape.specs.Contract.{stepped}
 use Rattle.tape.proofs.Runs.{known-read, runs, added}
-use Rattle.tape.proofs.Way.{Way, enter, bytes, earning, called, can-push, lost-here, ends-here, halts, not-stepped, as-it-is}
+use Rattle.tape.proofs.Way.{On, Further, Way, enter, bytes, earning, called, can-push, lost-here, ends-here, halts, not-stepped, as-it-is}
 use borrow.Author.Needs.{needs}
 use Rattle.segments.proofs.memory_region.Statement.{statement}
 use Rattle.segments.proofs.memory_region.Tie as tie
 
-abbrev Along : tie.Start → ℕ → List ℕ → Cursor → Type 0
-Along start = Way (rule.memory-region (expression (start .args .mode) (start .args .left))) (start .args .script .now) (start .args .tape .now) (start .args .c)
+abbrev at-entry : (c : tie.Start) → Way (rule.memory-region (expression (c .args .mode) (c .args .left))) (c .args .script .now) (c .args .tape .now) (c .args .c) 0 (c .args .tape .now) (c .args .c)
+at-entry c = enter (memory-region-pays (expression-pays _ _)) (c .pre)
 
-abbrev at-name : (c : tie.After-name) → Along (c .before .before .before .before .before) 1 (c .before .before .before .before .before .args .tape .now) (c .name .given .0 .1 .0)
+abbrev at-name : (c : tie.After-name) → On (at-entry (c .before .before .before .before .before)) 1 (c .before .before .before .before .before .args .tape .now) (c .name .given .0 .1 .0)
 unfolding rule.memory-region
-at-name c = earning _ token-pays (enter (memory-region-pays (expression-pays (c .before .before .before .before .before .args .mode) (c .before .before .before .before .before .args .left))) (c .before .before .before .before .before .pre)) refl (known taken (c .before .before .token .ensures) (c .name .given .1))
+at-name c = earning _ token-pays (at-entry (c .before .before .before .before .before)) refl (known taken (c .before .before .token .ensures) (c .name .given .1))
 
-abbrev at-colon : (c : tie.After-colon) → Along (c .before .before .before .before .before .before .before .before .before .before) 1 (c .before .before .before .before .before .before .before .before .before .before .args .tape .now) (c .colon .given .0 .0)
+abbrev at-colon : (c : tie.After-colon) → Further (at-name (c .before .before .before .before .before)) (c .colon .given .0 .0)
 unfolding rule.memory-region
 at-colon c = bytes _ (at-name (c .before .before .before .before .before)) refl (known read (c .before .before .skip-word-skip .ensures) (c .colon .given .1))
 
-abbrev at-origin : (c : tie.After-origin) → Along (c .before .before .before .before .before .before .before .before .before .before .before .before .before .before .before .before .before .before .before .before) 1 (c .before .before .before .before .bound .last .1 .0) (c .origin .given .0 .0)
+abbrev at-origin : (c : tie.After-origin) → On (at-colon (c .before .before .before .before .before .before .before .before .before .before)) 1 (c .before .before .before .before .bound .last .1 .0) (c .origin .given .0 .0)
 unfolding rule.memory-region
 at-origin c = called _ (at-colon (c .before .before .before .before .before .before .before .before .before .before)) refl (known-read stepped (c .before .before .before .before .bound .ensures) (c .origin .given .1)) (c .before .before .before .before .bound .kept .1 .0)
 
-abbrev at-comma : (c : tie.After-comma) → Along (c .before .before .before .before .before .before .before .before .before .before .before .before .before .before .before .before .before .before .before .before .before .before .before .before .before) 1 (c .before .before .before .before .before .before .before .before .before .bound .last .1 .0) (c .comma .given .0 .0)
+abbrev at-comma : (c : tie.After-comma) → Further (at-origin (c .before .before .before .before .before)) (c .comma .given .0 .0)
 unfolding rule.memory-region
 at-comma c = bytes _ (at-origin (c .before .before .before .before .before)) refl (known read (c .before .before .skip-word-skip2 .ensures) (c .comma .given .1))
 
-abbrev at-length : (c : tie.After-length) → Along (c .before .before .before .before .before .before .before .before .before .before .before .before .before .before .before .before .before .before .before .before .before .before .before .before .before .before .before .before .before .before .before .before .before .before .before) 1 (c .before .before .before .before .bound2 .last .1 .0) (c .length .given .0 .0)
+abbrev at-length : (c : tie.After-length) → On (at-comma (c .before .before .before .before .before .before .before .before .before .before)) 1 (c .before .before .before .before .bound2 .last .1 .0) (c .length .given .0 .0)
 unfolding rule.memory-region
 at-length c = called _ (at-comma (c .before .before .before .before .before .before .before .before .before .before)) refl (known-read stepped (c .before .before .before .before .bound2 .ensures) (c .length .given .1)) (c .before .before .before .before .bound2 .kept .1 .0)
 
@@ -48,7 +45,7 @@ memory-region-spec =
     (λ c κs. search needs)
     (λ c. search needs)
     (λ c. search needs)
-    (λ c. lost-here _ (enter (memory-region-pays (expression-pays (c .before .before .before .before .before .args .mode) (c .before .before .before .before .before .args .left))) (c .before .before .before .before .before .pre)) refl (known taken (c .before .before .token .ensures) (c .enum-told .given .1)))
+    (λ c. lost-here _ (at-entry (c .before .before .before .before .before)) refl (known taken (c .before .before .token .ensures) (c .enum-told .given .1)))
     (λ c. search needs)
     (λ c κs. search needs)
     (λ c. search needs)

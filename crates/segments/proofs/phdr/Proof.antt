@@ -1,18 +1,15 @@
 -- The name pays for the record.
 use mathlib.Core.Path.{refl, sym, ap, _∙_}
-use Prim.Native.Nat.{ℕ}
-use mathlib.Core.List.{List}
 use Rattle.rules.specs.Expressions.{expression}
 use Rattle.rules.specs.Commands as rule
 use Rattle.rules.proofs.Bytes.{token-pays}
 use Rattle.rules.proofs.Expressions.{expression-pays}
 use Rattle.rules.proofs.Commands.{phdr-pays}
 use Rattle.lex.specs.Contract.{read, taken}
-use Rattle.lex.specs.declared.Cursor.{Cursor}
 use Rattle.lex.proofs.Lexes.{known}
 use Rattle.tape.specs.Contract.{stepped}
 use Rattle.tape.proofs.Runs.{known-read, runs, added}
-use Rattle.tape.proofs.Way.{Way, enter, bytes, earning, called, can-push, lost-here, ends-here, halts, not-stepped, as-it-is}
+use Rattle.tape.proofs.Way.{On, Further, Way, enter, bytes, earning, called, can-push, lost-here, ends-here, halts, not-stepped, as-it-is}
 use Rattle.segments.specs.Answers.{worded}
 use Rattle.segments.proofs.Unread.{not-worded}
 use Rattle.rules.specs.Rule.{add}
@@ -21,34 +18,34 @@ use borrow.Author.Needs.{needs}
 use Rattle.segments.proofs.phdr.Statement.{statement}
 use Rattle.segments.proofs.phdr.Tie as tie
 
-abbrev Along : tie.Start → ℕ → List ℕ → Cursor → Type 0
-Along start = Way (rule.phdr (expression (start .args .mode) (start .args .left))) (start .args .script .now) (start .args .tape .now) (start .args .c)
+abbrev at-entry : (c : tie.Start) → Way (rule.phdr (expression (c .args .mode) (c .args .left))) (c .args .script .now) (c .args .tape .now) (c .args .c) 0 (c .args .tape .now) (c .args .c)
+at-entry c = enter (phdr-pays (expression-pays _ _)) (c .pre)
 
-abbrev at-name : (c : tie.After-name) → Along (c .before .before .before .before .before) 1 (c .before .before .before .before .before .args .tape .now) (c .name .given .0 .1 .0)
+abbrev at-name : (c : tie.After-name) → On (at-entry (c .before .before .before .before .before)) 1 (c .before .before .before .before .before .args .tape .now) (c .name .given .0 .1 .0)
 unfolding rule.phdr
-at-name c = earning _ token-pays (enter (phdr-pays (expression-pays (c .before .before .before .before .before .args .mode) (c .before .before .before .before .before .args .left))) (c .before .before .before .before .before .pre)) refl (known taken (c .before .before .token .ensures) (c .name .given .1))
+at-name c = earning _ token-pays (at-entry (c .before .before .before .before .before)) refl (known taken (c .before .before .token .ensures) (c .name .given .1))
 
-abbrev at-before2 : (c : tie.After-before2) → Along (c .before .before .before .before .before .before .before .before .before) 1 (c .before .before .before .before .before .before .before .before .before .args .tape .now) (c .before2 .given .0 .0)
+abbrev at-before2 : (c : tie.After-before2) → Further (at-name (c .before .before .before .before)) (c .before2 .given .0 .0)
 unfolding rule.phdr
 at-before2 c = bytes _ (at-name (c .before .before .before .before)) refl (known read (c .before .before .skip .ensures) (c .before2 .given .1))
 
-abbrev at-kind : (c : tie.After-kind) → Along (c .before .before .before .before .before .before .before .before .before .before .before .before .before .before .before .before) 1 (c .before .before .before .before .segment-kind .last .1 .0) (c .kind .given .0 .0)
+abbrev at-kind : (c : tie.After-kind) → On (at-before2 (c .before .before .before .before .before .before .before)) 1 (c .before .before .before .before .segment-kind .last .1 .0) (c .kind .given .0 .0)
 unfolding rule.phdr
 at-kind c = called _ (at-before2 (c .before .before .before .before .before .before .before)) refl (known-read stepped (c .before .before .before .before .segment-kind .ensures) (c .kind .given .1)) (c .before .before .before .before .segment-kind .kept .1 .0)
 
-abbrev at-behind : (c : tie.After-behind) → Along (c .before .before .before .before .before .before .before .before .before .before .before .before .before .before .before .before .before .before .before .before) 1 (c .before .before .before .before .before .before .before .before .segment-kind .last .1 .0) (c .behind .given .0 .0)
+abbrev at-behind : (c : tie.After-behind) → Further (at-kind (c .before .before .before .before)) (c .behind .given .0 .0)
 unfolding rule.phdr
 at-behind c = bytes _ (at-kind (c .before .before .before .before)) refl (known read (c .before .before .skip2 .ensures) (c .behind .given .1))
 
-abbrev at-words : (c : tie.After-words) → Along (c .before .before .before .before .before .before .before .before .before .before .before .before .before .before .before .before .before .before .before .before .before .before .before .before .before .before .before) 1 (c .before .before .before .before .segment-words .last .1 .0) (c .words .given .0 .1 .0)
+abbrev at-words : (c : tie.After-words) → On (at-behind (c .before .before .before .before .before .before .before)) 1 (c .before .before .before .before .segment-words .last .1 .0) (c .words .given .0 .1 .0)
 unfolding rule.phdr
 at-words c = called _ (at-behind (c .before .before .before .before .before .before .before)) refl (known-read worded (c .before .before .before .before .segment-words .ensures) (c .words .given .1)) (c .before .before .before .before .segment-words .kept .1 .0)
 
-abbrev at-ended : (c : tie.After-ended) → Along (c .before .before .before .before .before .before .before .before .before .before .before .before .before .before .before .before .before .before .before .before .before .before .before .before .before .before .before .before .before .before .before .before) 1 (c .before .before .before .before .before .before .before .before .before .segment-words .last .1 .0) (c .ended .given .0 .0)
+abbrev at-ended : (c : tie.After-ended) → Further (at-words (c .before .before .before .before .before)) (c .ended .given .0 .0)
 unfolding rule.phdr
 at-ended c = bytes _ (at-words (c .before .before .before .before .before)) refl (known read (c .before .before .opt-word-skip .ensures) (c .ended .given .1))
 
-abbrev at-headers : (c : tie.After-headers) → Along (c .before .before .before .before .before .before .before .before .before .before .before .before .before .before .before .before .before .before .before .before .before .before .before .before .before .before .before .before .before .before .before .before .before .before) 1 (c .before .before .before .before .before .before .before .before .before .before .before .segment-words .last .1 .0) (c .before .before .ended .given .0 .0)
+abbrev at-headers : (c : tie.After-headers) → Further (at-ended (c .before .before)) (c .before .before .ended .given .0 .0)
 unfolding rule.phdr
 at-headers c = same-as (at-ended (c .before .before)) (ap (λ n. add 54 (c .before .before .before .before .before .before .before .before .before .before .before .before .before .before .before .before .before .before .before .before .before .before .before .before .before .before .before .before .before .name .given .0 .0 .start) (c .before .before .before .before .before .before .before .before .before .before .before .before .before .before .before .before .before .before .before .before .before .before .before .before .before .before .before .before .before .name .given .0 .0 .len) n (c .before .before .before .before .before .before .before .words .given .0 .0 .flags)) (sym (c .headers .ensures)))
 
@@ -60,7 +57,7 @@ phdr-spec =
     (λ c κs. search needs)
     (λ c. search needs)
     (λ c. search needs)
-    (λ c. lost-here _ (enter (phdr-pays (expression-pays (c .before .before .before .before .before .args .mode) (c .before .before .before .before .before .args .left))) (c .before .before .before .before .before .pre)) refl (known taken (c .before .before .token .ensures) (c .enum-told .given .1)))
+    (λ c. lost-here _ (at-entry (c .before .before .before .before .before)) refl (known taken (c .before .before .token .ensures) (c .enum-told .given .1)))
     (λ c κs. search needs)
     (λ c. search needs)
     (λ c. search needs)

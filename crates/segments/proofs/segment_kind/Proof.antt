@@ -1,31 +1,28 @@
 -- A PT_ word or an expression pays for itself.
 use mathlib.Core.Path.{refl, _∙_}
-use Prim.Native.Nat.{ℕ}
-use mathlib.Core.List.{List}
 use Rattle.rules.specs.Expressions.{expression}
 use Rattle.rules.specs.Commands as rule
 use Rattle.rules.proofs.Expressions.{expression-pays}
 use Rattle.rules.proofs.Commands.{segment-kind-pays}
-use Rattle.lex.specs.declared.Cursor.{Cursor}
 use Rattle.lex.proofs.Lexes.{asked}
 use Rattle.tape.proofs.Runs.{runs}
-use Rattle.tape.proofs.Way.{Way, enter, bytes, ends-here, where-so, where-not}
+use Rattle.tape.proofs.Way.{Further, Way, enter, bytes, ends-here, where-so, where-not}
 use borrow.Author.Needs.{needs}
 use Rattle.segments.proofs.segment_kind.Statement.{statement}
 use Rattle.segments.proofs.segment_kind.Tie as tie
 
-abbrev Along : tie.Start → ℕ → List ℕ → Cursor → Type 0
-Along start = Way (rule.segment-kind (expression (start .args .mode) (start .args .left))) (start .args .script .now) (start .args .tape .now) (start .args .c)
+abbrev at-entry : (c : tie.Start) → Way (rule.segment-kind (expression (c .args .mode) (c .args .left))) (c .args .script .now) (c .args .tape .now) (c .args .c) 0 (c .args .tape .now) (c .args .c)
+at-entry c = enter (segment-kind-pays (expression-pays _ _)) (c .pre)
 
-abbrev at-starts : (c : tie.After-starts) → Along (c .before .before .before .before) 0 (c .before .before .before .before .args .tape .now) (c .before .before .before .before .args .c)
+abbrev at-starts : (c : tie.After-starts) → Further (at-entry (c .before .before .before .before)) (c .before .before .before .before .args .c)
 unfolding rule.segment-kind
-at-starts c = bytes _ (enter (segment-kind-pays (expression-pays (c .before .before .before .before .args .mode) (c .before .before .before .before .args .left))) (c .before .before .before .before .pre)) refl (asked "PT_" (c .starts .ensures))
+at-starts c = bytes _ (at-entry (c .before .before .before .before)) refl (asked "PT_" (c .starts .ensures))
 
-abbrev at-if1 : (c : tie.Then1) → Along (c .before .before .before .before .before) 0 (c .before .before .before .before .before .args .tape .now) (c .before .before .before .before .before .args .c)
+abbrev at-if1 : (c : tie.Then1) → Further (at-starts (c .before)) (c .before .before .before .before .before .args .c)
 unfolding rule.segment-kind
 at-if1 c = where-so (at-starts (c .before)) _ _ refl (c .if1 .taken)
 
-abbrev at-if1-left : (c : tie.Else1) → Along (c .before .before .before .before .before) 0 (c .before .before .before .before .before .args .tape .now) (c .before .before .before .before .before .args .c)
+abbrev at-if1-left : (c : tie.Else1) → Further (at-starts (c .before)) (c .before .before .before .before .before .args .c)
 unfolding rule.segment-kind
 at-if1-left c = where-not (at-starts (c .before)) _ _ refl (c .if1 .left)
 

@@ -2,14 +2,12 @@
 use mathlib.Core.Path.{refl, ap, _∙_}
 use Prim.Native.Nat.{ℕ}
 use native.Mathlib.Omega.{arith}
-use mathlib.Core.List.{List}
 use Rattle.rules.specs.Commands as rule
 use Rattle.rules.proofs.Commands.{group-pays}
 use Rattle.lex.specs.Contract.{read}
-use Rattle.lex.specs.declared.Cursor.{Cursor}
 use Rattle.lex.proofs.Lexes.{known}
 use Rattle.tape.proofs.Runs.{runs}
-use Rattle.tape.proofs.Way.{Way, enter, bytes, lost-here, ends-here}
+use Rattle.tape.proofs.Way.{Further, Way, enter, bytes, lost-here, ends-here}
 use Rattle.tape.proofs.Way.{same-as}
 use Rattle.tape.proofs.Runs.{sinks-here}
 use Rattle.commands.proofs.Levels.{above}
@@ -25,18 +23,18 @@ callees t =
     (skip-reads.Asked, skip-reads.Learnt, group-items-below t, group-items.Post)
 
 module _ (t : ℕ) where
-  abbrev Along : lts.Start (callees t) (group-at t) group.Post → ℕ → List ℕ → Cursor → Type 0
-  Along start = Way (rule.group (start .args .mode) (start .args .left)) (start .args .script .now) (start .args .tape .now) (start .args .c)
+  abbrev at-entry : (c : lts.Start (callees t) (group-at t) group.Post) → Way (rule.group (c .args .mode) (c .args .left)) (c .args .script .now) (c .args .tape .now) (c .args .c) 0 (c .args .tape .now) (c .args .c)
+  at-entry c = enter (group-pays _ _) (c .pre .1)
 
-  abbrev at-if1 : (c : lts.Then1 (callees t) (group-at t) group.Post) → Along (c .before .before .before) 0 (c .before .before .before .args .tape .now) (c .before .before .before .args .c)
+  abbrev at-if1 : (c : lts.Then1 (callees t) (group-at t) group.Post) → Further (at-entry (c .before .before .before)) (c .before .before .before .args .c)
   unfolding rule.group rule.command
-  at-if1 c = same-as (enter (group-pays (c .before .before .before .args .mode) (c .before .before .before .args .left)) (c .before .before .before .pre .1)) (ap (λ n. rule.group (c .before .before .before .args .mode) n) (c .if1 .taken))
+  at-if1 c = same-as (at-entry (c .before .before .before)) (ap (λ n. rule.group (c .before .before .before .args .mode) n) (c .if1 .taken))
 
-  abbrev at-if1-left : (c : lts.Else1 (callees t) (group-at t) group.Post) → Along (c .before .before .before) 0 (c .before .before .before .args .tape .now) (c .before .before .before .args .c)
+  abbrev at-if1-left : (c : lts.Else1 (callees t) (group-at t) group.Post) → Further (at-entry (c .before .before .before)) (c .before .before .before .args .c)
   unfolding rule.group rule.command
-  at-if1-left c = same-as (enter (group-pays (c .before .before .before .args .mode) (c .before .before .before .args .left)) (c .before .before .before .pre .1)) (ap (λ n. rule.group (c .before .before .before .args .mode) n) (above (c .before .before .before .args .left) (c .if1 .left)))
+  at-if1-left c = same-as (at-entry (c .before .before .before)) (ap (λ n. rule.group (c .before .before .before .args .mode) n) (above (c .before .before .before .args .left) (c .if1 .left)))
 
-  abbrev at-skipped : (c : lts.After-skipped (callees t) (group-at t) group.Post) → Along (c .before .before .before .before .before .before) 0 (c .before .before .before .before .before .before .args .tape .now) (c .skipped .given .0 .0)
+  abbrev at-skipped : (c : lts.After-skipped (callees t) (group-at t) group.Post) → Further (at-if1-left (c .before .before .before)) (c .skipped .given .0 .0)
   unfolding rule.group rule.command
   at-skipped c = bytes _ (at-if1-left (c .before .before .before)) refl (known read (c .before .before .skip .ensures) (c .skipped .given .1))
 

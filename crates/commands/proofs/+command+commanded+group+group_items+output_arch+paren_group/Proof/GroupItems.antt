@@ -3,18 +3,16 @@ use mathlib.Core.Path.{_≡_, refl, sym, ap, _∙_}
 use Prim.Native.Nat.{ℕ, _+_, _-_}
 use native.Mathlib.Omega.{arith}
 use native.Mathlib.Numerals.{add-one}
-use mathlib.Core.List.{List}
 use lib.ListN.{length}
 use Rattle.rules.specs.Rule.{if_then_else_, repeating, repeat-till, word}
 use Rattle.rules.specs.Commands as rule
 use Rattle.rules.proofs.Pays.{repeats, over}
 use Rattle.rules.proofs.Commands.{command-pays}
 use Rattle.lex.specs.Contract.{read}
-use Rattle.lex.specs.declared.Cursor.{Cursor}
 use Rattle.lex.proofs.Lexes.{known, given, refused, sized, opt-some, opt-none}
 use Rattle.tape.specs.Contract.{Reads, stepped}
 use Rattle.tape.proofs.Runs.{known-read, runs, as-bytes, as-lost}
-use Rattle.tape.proofs.Way.{Way, Loop, enter, bytes, called, ends-here, halts, not-stepped, turn, spent}
+use Rattle.tape.proofs.Way.{On, Further, Way, Loop, enter, bytes, called, ends-here, halts, not-stepped, turn, spent}
 use Rattle.commands.proofs.+command+commanded+group+group_items+output_arch+paren_group.Proof.Common.{group-items-at, command-below}
 use Rattle.commands.proofs.group_items.Reads as group-items
 use Rattle.commands.proofs.command.Reads as command
@@ -34,28 +32,28 @@ abbrev pub μ-loop : lts.MeasureT-loop
 μ-loop script tape₀ mode left at₀ k₀ turns₀ mark tape at k turns = turns
 
 module _ (t : ℕ) where
-  abbrev Along : lts.Start (callees t) (group-items-at t) group-items.Post Inv-loop μ-loop → ℕ → List ℕ → Cursor → Type 0
-  Along start = Way (repeat-till (rule.command (start .args .mode) (start .args .left)) (word ")")) (start .args .script .now) (start .args .tape .now) (start .args .c)
+  abbrev at-entry : (c : lts.Start (callees t) (group-items-at t) group-items.Post Inv-loop μ-loop) → Way (repeat-till (rule.command (c .args .mode) (c .args .left)) (word ")")) (c .args .script .now) (c .args .tape .now) (c .args .c) 0 (c .args .tape .now) (c .args .c)
+  at-entry c = enter (λ f i. repeats (command-pays (c .args .mode) (c .args .left) f i) (over _)) (c .pre .1)
 
-  abbrev at-turn : (c : lts.In-loop (callees t) (group-items-at t) group-items.Post Inv-loop μ-loop) → Along (c .before .before .before .before) 0 (c .before .loop .tape) (c .before .loop .at)
+  abbrev at-turn : (c : lts.In-loop (callees t) (group-items-at t) group-items.Post Inv-loop μ-loop) → Further (c .before .loop .inv .0 .way) (c .before .loop .at)
   unfolding repeat-till repeating if_then_else_
   at-turn c = turn (c .before .loop .inv .0 .way) (λ n. repeating (rule.command (c .before .before .before .before .args .mode) (c .before .before .before .before .args .left)) (word ")") n (c .before .loop .k)) (c .before .loop .inv .0 .left) (c .loop-test .taken)
 
-  abbrev at-end : (c : lts.After-end (callees t) (group-items-at t) group-items.Post Inv-loop μ-loop) → Along (c .before .before .before .before .before .before .before .before) 0 (c .before .before .before .before .before .loop .tape) (c .end .given .0 .0)
+  abbrev at-end : (c : lts.After-end (callees t) (group-items-at t) group-items.Post Inv-loop μ-loop) → Further (at-turn (c .before .before .before .before)) (c .end .given .0 .0)
   unfolding repeat-till repeating if_then_else_
   at-end c = bytes _ (at-turn (c .before .before .before .before)) refl (opt-some (known read (c .before .before .word .ensures) (c .end .given .1)))
 
-  abbrev at-enum-told : (c : lts.After-enum-told (callees t) (group-items-at t) group-items.Post Inv-loop μ-loop) → Along (c .before .before .before .before .before .before .before .before) 0 (c .before .before .before .before .before .loop .tape) (c .before .before .before .before .before .loop .at)
+  abbrev at-enum-told : (c : lts.After-enum-told (callees t) (group-items-at t) group-items.Post Inv-loop μ-loop) → Further (at-turn (c .before .before .before .before)) (c .before .before .before .before .before .loop .at)
   unfolding repeat-till repeating if_then_else_
   at-enum-told c = bytes _ (at-turn (c .before .before .before .before)) refl (opt-none (known read (c .before .before .word .ensures) (c .enum-told .given .1)))
 
-  abbrev at-one : (c : lts.After-one (callees t) (group-items-at t) group-items.Post Inv-loop μ-loop) → Along (c .before .before .before .before .before .before .before .before .before .before .before .before .before .before) 0 (c .before .before .before .before .command .last .1 .0) (c .one .given .0 .0)
+  abbrev at-one : (c : lts.After-one (callees t) (group-items-at t) group-items.Post Inv-loop μ-loop) → On (at-enum-told (c .before .before .before .before .before .before)) 0 (c .before .before .before .before .command .last .1 .0) (c .one .given .0 .0)
   unfolding repeat-till repeating if_then_else_
   at-one c = called _ (at-enum-told (c .before .before .before .before .before .before)) refl (known-read stepped (c .before .before .before .before .command .ensures) (c .one .given .1)) (c .before .before .before .before .command .kept .1 .0)
 
   pub loop-holds : lts.Need-loop-holds (callees t) (group-items-at t) group-items.Post Inv-loop μ-loop
   unfolding repeat-till repeating if_then_else_
-  loop-holds c = (record { way = bytes _ (enter (λ f i. repeats (command-pays (c .before .before .args .mode) (c .before .before .args .left) f i) (over _)) (c .before .before .pre .1)) refl sized; left = ap (λ n. repeating (rule.command (c .before .before .args .mode) (c .before .before .args .left)) (word ")") n 0) (sym (add-one (length (c .before .before .args .script .now)))) }, omega arith)
+  loop-holds c = (record { way = bytes _ (at-entry (c .before .before)) refl sized; left = ap (λ n. repeating (rule.command (c .before .before .args .mode) (c .before .before .args .left)) (word ")") n 0) (sym (add-one (length (c .before .before .args .script .now)))) }, omega arith)
 
   pub same-length : lts.Need-same-length (callees t) (group-items-at t) group-items.Post Inv-loop μ-loop
   same-length c = (at-end (c .before)) .size

@@ -2,17 +2,15 @@
 use mathlib.Core.Path.{refl, _∙_}
 use Prim.Native.Nat.{ℕ}
 use native.Mathlib.Omega.{arith}
-use mathlib.Core.List.{List}
 use Rattle.rules.specs.Text.{ascii}
 use Rattle.rules.specs.Commands as rule
 use Rattle.rules.proofs.Pays.{earns}
 use Rattle.rules.proofs.Commands.{paren-group-pays, group-pays}
 use Rattle.lex.specs.Contract.{read}
-use Rattle.lex.specs.declared.Cursor.{Cursor}
 use Rattle.lex.proofs.Lexes.{known}
 use Rattle.tape.specs.Contract.{counted}
 use Rattle.tape.proofs.Runs.{known-read, runs, added}
-use Rattle.tape.proofs.Way.{Way, enter, earning, called, can-push, lost-here, ends-here, halts, not-counted}
+use Rattle.tape.proofs.Way.{On, Way, enter, earning, called, can-push, lost-here, ends-here, halts, not-counted}
 use Rattle.commands.proofs.+command+commanded+group+group_items+output_arch+paren_group.Proof.Common.{paren-group-at, group-below}
 use Rattle.commands.proofs.paren_group.Reads as paren-group
 use Rattle.commands.proofs.group.Reads as group
@@ -27,20 +25,20 @@ callees t =
     (word-reads.Asked, word-reads.Learnt, group-below t, group.Post, step-reads.Asked, step-reads.Learnt, push-reads.Asked, push-reads.Learnt)
 
 module _ (t : ℕ) where
-  abbrev Along : lts.Start (callees t) (paren-group-at t) paren-group.Post → ℕ → List ℕ → Cursor → Type 0
-  Along start = Way (rule.paren-group (rule.group (start .args .mode) (start .args .left)) (start .args .kind)) (start .args .script .now) (start .args .tape .now) (start .args .c)
+  abbrev at-entry : (c : lts.Start (callees t) (paren-group-at t) paren-group.Post) → Way (rule.paren-group (rule.group (c .args .mode) (c .args .left)) (c .args .kind)) (c .args .script .now) (c .args .tape .now) (c .args .c) 0 (c .args .tape .now) (c .args .c)
+  at-entry c = enter (paren-group-pays (group-pays _ _) (c .args .kind)) (c .pre .1)
 
-  abbrev at-opened : (c : lts.After-opened (callees t) (paren-group-at t) paren-group.Post) → Along (c .before .before .before .before .before .before) 1 (c .before .before .before .before .before .before .args .tape .now) (c .opened .given .0 .0)
+  abbrev at-opened : (c : lts.After-opened (callees t) (paren-group-at t) paren-group.Post) → On (at-entry (c .before .before .before .before .before .before)) 1 (c .before .before .before .before .before .before .args .tape .now) (c .opened .given .0 .0)
   unfolding rule.paren-group
-  at-opened c = earning _ (λ f i. earns (ascii "(") (omega arith)) (enter (paren-group-pays (group-pays (c .before .before .before .before .before .before .args .mode) (c .before .before .before .before .before .before .args .left)) (c .before .before .before .before .before .before .args .kind)) (c .before .before .before .before .before .before .pre .1)) refl (known read (c .before .before .word .ensures) (c .opened .given .1))
+  at-opened c = earning _ (λ f i. earns (ascii "(") (omega arith)) (at-entry (c .before .before .before .before .before .before)) refl (known read (c .before .before .word .ensures) (c .opened .given .1))
 
-  abbrev at-list : (c : lts.After-list (callees t) (paren-group-at t) paren-group.Post) → Along (c .before .before .before .before .before .before .before .before .before .before .before .before .before) 1 (c .before .before .before .before .group .last .1 .0) (c .list .given .0 .1 .0)
+  abbrev at-list : (c : lts.After-list (callees t) (paren-group-at t) paren-group.Post) → On (at-opened (c .before .before .before .before .before .before .before)) 1 (c .before .before .before .before .group .last .1 .0) (c .list .given .0 .1 .0)
   unfolding rule.paren-group
   at-list c = called _ (at-opened (c .before .before .before .before .before .before .before)) refl (known-read counted (c .before .before .before .before .group .ensures) (c .list .given .1)) (c .before .before .before .before .group .kept .1 .0)
 
   pub returns : lts.Need-returns (callees t) (paren-group-at t) paren-group.Post
   unfolding rule.paren-group
-  returns c = lost-here _ (enter (paren-group-pays (group-pays (c .before .before .before .before .before .before .args .mode) (c .before .before .before .before .before .before .args .left)) (c .before .before .before .before .before .before .args .kind)) (c .before .before .before .before .before .before .pre .1)) refl (known read (c .before .before .word .ensures) (c .enum-told .given .1))
+  returns c = lost-here _ (at-entry (c .before .before .before .before .before .before)) refl (known read (c .before .before .word .ensures) (c .enum-told .given .1))
 
   pub group-requires : lts.Need-group-requires (callees t) (paren-group-at t) paren-group.Post
   group-requires c κs = (omega (arith, c .before .before .before .before .before .before .before .before .pre .0), (at-opened (c .before .before)) .room)

@@ -1,31 +1,28 @@
 -- The name pays for the record.
 use mathlib.Core.Path.{refl, _∙_}
-use Prim.Native.Nat.{ℕ}
-use mathlib.Core.List.{List}
 use Rattle.rules.specs.Commands as rule
 use Rattle.rules.proofs.Bytes.{token-pays}
 use Rattle.rules.proofs.Commands.{entry-pays}
 use Rattle.lex.specs.Contract.{read, taken}
-use Rattle.lex.specs.declared.Cursor.{Cursor}
 use Rattle.lex.proofs.Lexes.{known}
 use Rattle.tape.proofs.Runs.{added}
-use Rattle.tape.proofs.Way.{Way, enter, bytes, earning, can-push, lost-here, ends-here}
+use Rattle.tape.proofs.Way.{On, Further, Way, enter, bytes, earning, can-push, lost-here, ends-here}
 use borrow.Author.Needs.{needs}
 use Rattle.commands.proofs.formats.entry.Statement.{statement}
 use Rattle.commands.proofs.formats.entry.Tie as tie
 
-abbrev Along : tie.Start → ℕ → List ℕ → Cursor → Type 0
-Along start = Way (rule.entry) (start .args .script .now) (start .args .tape .now) (start .args .c)
+abbrev at-entry : (c : tie.Start) → Way (rule.entry) (c .args .script .now) (c .args .tape .now) (c .args .c) 0 (c .args .tape .now) (c .args .c)
+at-entry c = enter entry-pays (c .pre)
 
-abbrev at-opened : (c : tie.After-opened) → Along (c .before .before .before .before .before .before) 0 (c .before .before .before .before .before .before .args .tape .now) (c .opened .given .0 .0)
+abbrev at-opened : (c : tie.After-opened) → Further (at-entry (c .before .before .before .before .before .before)) (c .opened .given .0 .0)
 unfolding rule.entry
-at-opened c = bytes _ (enter (entry-pays) (c .before .before .before .before .before .before .pre)) refl (known read (c .before .before .skip-word-skip .ensures) (c .opened .given .1))
+at-opened c = bytes _ (at-entry (c .before .before .before .before .before .before)) refl (known read (c .before .before .skip-word-skip .ensures) (c .opened .given .1))
 
-abbrev at-name : (c : tie.After-name) → Along (c .before .before .before .before .before .before .before .before .before .before) 1 (c .before .before .before .before .before .before .before .before .before .before .args .tape .now) (c .name .given .0 .1 .0)
+abbrev at-name : (c : tie.After-name) → On (at-opened (c .before .before .before .before)) 1 (c .before .before .before .before .before .before .before .before .before .before .args .tape .now) (c .name .given .0 .1 .0)
 unfolding rule.entry
 at-name c = earning _ token-pays (at-opened (c .before .before .before .before)) refl (known taken (c .before .before .token .ensures) (c .name .given .1))
 
-abbrev at-closed : (c : tie.After-closed) → Along (c .before .before .before .before .before .before .before .before .before .before .before .before .before .before .before) 1 (c .before .before .before .before .before .before .before .before .before .before .before .before .before .before .before .args .tape .now) (c .closed .given .0 .0)
+abbrev at-closed : (c : tie.After-closed) → Further (at-name (c .before .before .before .before .before)) (c .closed .given .0 .0)
 unfolding rule.entry
 at-closed c = bytes _ (at-name (c .before .before .before .before .before)) refl (known read (c .before .before .skip-word .ensures) (c .closed .given .1))
 
@@ -38,7 +35,7 @@ entry-spec =
     (λ c κs. search needs)
     (λ c. search needs)
     (λ c. search needs)
-    (λ c. lost-here _ (enter (entry-pays) (c .before .before .before .before .before .before .pre)) refl (known read (c .before .before .skip-word-skip .ensures) (c .enum-told .given .1)))
+    (λ c. lost-here _ (at-entry (c .before .before .before .before .before .before)) refl (known read (c .before .before .skip-word-skip .ensures) (c .enum-told .given .1)))
     (λ c κs. search needs)
     (λ c. search needs)
     (λ c. search needs)

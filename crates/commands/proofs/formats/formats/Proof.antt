@@ -1,48 +1,45 @@
 -- Each format pays for itself.
 use mathlib.Core.Path.{refl, _∙_}
-use Prim.Native.Nat.{ℕ}
-use mathlib.Core.List.{List}
 use Rattle.rules.specs.Rule.{if_then_else_}
 use Rattle.rules.specs.Commands as rule
 use Rattle.rules.proofs.Commands.{formats-pays}
 use Rattle.lex.specs.Contract.{read}
-use Rattle.lex.specs.declared.Cursor.{Cursor}
 use Rattle.lex.proofs.Lexes.{known, given, opt-some, opt-none}
 use Rattle.tape.specs.Contract.{stepped}
 use Rattle.tape.proofs.Runs.{known-read, runs, as-bytes}
-use Rattle.tape.proofs.Way.{Way, enter, bytes, called, lost-here, ends-here, halts, not-stepped}
+use Rattle.tape.proofs.Way.{On, Further, Way, enter, bytes, called, lost-here, ends-here, halts, not-stepped}
 use borrow.Author.Needs.{needs}
 use Rattle.commands.proofs.formats.formats.Statement.{statement}
 use Rattle.commands.proofs.formats.formats.Tie as tie
 
-abbrev Along : tie.Start → ℕ → List ℕ → Cursor → Type 0
-Along start = Way (rule.formats) (start .args .script .now) (start .args .tape .now) (start .args .c)
+abbrev at-entry : (c : tie.Start) → Way (rule.formats) (c .args .script .now) (c .args .tape .now) (c .args .c) 0 (c .args .tape .now) (c .args .c)
+at-entry c = enter formats-pays (c .pre)
 
-abbrev at-enum-told : (c : tie.After-enum-told) → Along (c .before .before .before .before .before .before) 0 (c .before .before .before .before .before .before .args .tape .now) (c .before .before .before .before .before .before .args .c)
+abbrev at-enum-told : (c : tie.After-enum-told) → Further (at-entry (c .before .before .before .before .before .before)) (c .before .before .before .before .before .before .args .c)
 unfolding rule.formats if_then_else_
-at-enum-told c = bytes _ (enter (formats-pays) (c .before .before .before .before .before .before .pre)) refl (opt-none (known read (c .before .before .word .ensures) (c .enum-told .given .1)))
+at-enum-told c = bytes _ (at-entry (c .before .before .before .before .before .before)) refl (opt-none (known read (c .before .before .word .ensures) (c .enum-told .given .1)))
 
-abbrev at-several : (c : tie.After-several) → Along (c .before .before .before .before .before .before) 0 (c .before .before .before .before .before .before .args .tape .now) (c .several .given .0 .0)
+abbrev at-several : (c : tie.After-several) → Further (at-entry (c .before .before .before .before .before .before)) (c .several .given .0 .0)
 unfolding rule.formats if_then_else_
-at-several c = bytes _ (enter (formats-pays) (c .before .before .before .before .before .before .pre)) refl (opt-some (known read (c .before .before .word .ensures) (c .several .given .1)))
+at-several c = bytes _ (at-entry (c .before .before .before .before .before .before)) refl (opt-some (known read (c .before .before .word .ensures) (c .several .given .1)))
 
-abbrev at-before2 : (c : tie.After-before2) → Along (c .before .before .before .before .before .before .before .before .before .before) 0 (c .before .before .before .before .before .before .before .before .before .before .args .tape .now) (c .before2 .given .0 .0)
+abbrev at-before2 : (c : tie.After-before2) → Further (at-several (c .before .before .before .before)) (c .before2 .given .0 .0)
 unfolding rule.formats if_then_else_
 at-before2 c = bytes _ (at-several (c .before .before .before .before)) refl (known read (c .before .before .skip .ensures) (c .before2 .given .1))
 
-abbrev at-big : (c : tie.After-big) → Along (c .before .before .before .before .before .before .before .before .before .before .before .before .before .before .before .before .before) 0 (c .before .before .before .before .format .last .1 .0) (c .big .given .0 .0)
+abbrev at-big : (c : tie.After-big) → On (at-before2 (c .before .before .before .before .before .before .before)) 0 (c .before .before .before .before .format .last .1 .0) (c .big .given .0 .0)
 unfolding rule.formats if_then_else_
 at-big c = called _ (at-before2 (c .before .before .before .before .before .before .before)) refl (known-read stepped (c .before .before .before .before .format .ensures) (c .big .given .1)) (c .before .before .before .before .format .kept .1 .0)
 
-abbrev at-comma : (c : tie.After-comma) → Along (c .before .before .before .before .before .before .before .before .before .before .before .before .before .before .before .before .before .before .before .before .before .before) 0 (c .before .before .before .before .before .before .before .before .before .format .last .1 .0) (c .comma .given .0 .0)
+abbrev at-comma : (c : tie.After-comma) → Further (at-big (c .before .before .before .before .before)) (c .comma .given .0 .0)
 unfolding rule.formats if_then_else_
 at-comma c = bytes _ (at-big (c .before .before .before .before .before)) refl (known read (c .before .before .skip-word-skip .ensures) (c .comma .given .1))
 
-abbrev at-little : (c : tie.After-little) → Along (c .before .before .before .before .before .before .before .before .before .before .before .before .before .before .before .before .before .before .before .before .before .before .before .before .before .before .before .before .before) 0 (c .before .before .before .before .format2 .last .1 .0) (c .little .given .0 .0)
+abbrev at-little : (c : tie.After-little) → On (at-comma (c .before .before .before .before .before .before .before)) 0 (c .before .before .before .before .format2 .last .1 .0) (c .little .given .0 .0)
 unfolding rule.formats if_then_else_
 at-little c = called _ (at-comma (c .before .before .before .before .before .before .before)) refl (known-read stepped (c .before .before .before .before .format2 .ensures) (c .little .given .1)) (c .before .before .before .before .format2 .kept .1 .0)
 
-abbrev at-behind : (c : tie.After-behind) → Along (c .before .before .before .before .before .before .before .before .before .before .before .before .before .before .before .before .before .before .before .before .before .before .before .before .before .before .before .before .before .before .before .before .before) 0 (c .before .before .before .before .before .before .before .before .format2 .last .1 .0) (c .behind .given .0 .0)
+abbrev at-behind : (c : tie.After-behind) → Further (at-little (c .before .before .before .before)) (c .behind .given .0 .0)
 unfolding rule.formats if_then_else_
 at-behind c = bytes _ (at-little (c .before .before .before .before)) refl (known read (c .before .before .skip2 .ensures) (c .behind .given .1))
 

@@ -1,40 +1,37 @@
 -- The name pays for the record.
 use mathlib.Core.Path.{refl, _∙_}
-use Prim.Native.Nat.{ℕ}
-use mathlib.Core.List.{List}
 use Rattle.rules.specs.Commands as rule
 use Rattle.rules.proofs.Bytes.{token-pays}
 use Rattle.rules.proofs.Commands.{output-format-pays}
 use Rattle.lex.specs.Contract.{read, taken}
-use Rattle.lex.specs.declared.Cursor.{Cursor}
 use Rattle.lex.proofs.Lexes.{known}
 use Rattle.tape.specs.Contract.{counted}
 use Rattle.tape.proofs.Runs.{known-read, runs, added}
-use Rattle.tape.proofs.Way.{Way, enter, bytes, earning, called, can-push, lost-here, ends-here, halts, not-counted}
+use Rattle.tape.proofs.Way.{On, Further, Way, enter, bytes, earning, called, can-push, lost-here, ends-here, halts, not-counted}
 use borrow.Author.Needs.{needs}
 use Rattle.commands.proofs.formats.output_format.Statement.{statement}
 use Rattle.commands.proofs.formats.output_format.Tie as tie
 
-abbrev Along : tie.Start → ℕ → List ℕ → Cursor → Type 0
-Along start = Way (rule.output-format) (start .args .script .now) (start .args .tape .now) (start .args .c)
+abbrev at-entry : (c : tie.Start) → Way (rule.output-format) (c .args .script .now) (c .args .tape .now) (c .args .c) 0 (c .args .tape .now) (c .args .c)
+at-entry c = enter output-format-pays (c .pre)
 
-abbrev at-opened : (c : tie.After-opened) → Along (c .before .before .before .before .before .before) 0 (c .before .before .before .before .before .before .args .tape .now) (c .opened .given .0 .0)
+abbrev at-opened : (c : tie.After-opened) → Further (at-entry (c .before .before .before .before .before .before)) (c .opened .given .0 .0)
 unfolding rule.output-format
-at-opened c = bytes _ (enter (output-format-pays) (c .before .before .before .before .before .before .pre)) refl (known read (c .before .before .word-skip .ensures) (c .opened .given .1))
+at-opened c = bytes _ (at-entry (c .before .before .before .before .before .before)) refl (known read (c .before .before .word-skip .ensures) (c .opened .given .1))
 
-abbrev at-name : (c : tie.After-name) → Along (c .before .before .before .before .before .before .before .before .before .before) 1 (c .before .before .before .before .before .before .before .before .before .before .args .tape .now) (c .name .given .0 .1 .0)
+abbrev at-name : (c : tie.After-name) → On (at-opened (c .before .before .before .before)) 1 (c .before .before .before .before .before .before .before .before .before .before .args .tape .now) (c .name .given .0 .1 .0)
 unfolding rule.output-format
 at-name c = earning _ token-pays (at-opened (c .before .before .before .before)) refl (known taken (c .before .before .token .ensures) (c .name .given .1))
 
-abbrev at-skipped : (c : tie.After-skipped) → Along (c .before .before .before .before .before .before .before .before .before .before .before .before .before .before) 1 (c .before .before .before .before .before .before .before .before .before .before .before .before .before .before .args .tape .now) (c .skipped .given .0 .0)
+abbrev at-skipped : (c : tie.After-skipped) → Further (at-name (c .before .before .before .before)) (c .skipped .given .0 .0)
 unfolding rule.output-format
 at-skipped c = bytes _ (at-name (c .before .before .before .before)) refl (known read (c .before .before .skip .ensures) (c .skipped .given .1))
 
-abbrev at-others : (c : tie.After-others) → Along (c .before .before .before .before .before .before .before .before .before .before .before .before .before .before .before .before .before .before .before .before .before) 1 (c .before .before .before .before .formats .last .1 .0) (c .others .given .0 .1 .0)
+abbrev at-others : (c : tie.After-others) → On (at-skipped (c .before .before .before .before .before .before .before)) 1 (c .before .before .before .before .formats .last .1 .0) (c .others .given .0 .1 .0)
 unfolding rule.output-format
 at-others c = called _ (at-skipped (c .before .before .before .before .before .before .before)) refl (known-read counted (c .before .before .before .before .formats .ensures) (c .others .given .1)) (c .before .before .before .before .formats .kept .1 .0)
 
-abbrev at-closed : (c : tie.After-closed) → Along (c .before .before .before .before .before .before .before .before .before .before .before .before .before .before .before .before .before .before .before .before .before .before .before .before .before .before) 1 (c .before .before .before .before .before .before .before .before .before .formats .last .1 .0) (c .closed .given .0 .0)
+abbrev at-closed : (c : tie.After-closed) → Further (at-others (c .before .before .before .before .before)) (c .closed .given .0 .0)
 unfolding rule.output-format
 at-closed c = bytes _ (at-others (c .before .before .before .before .before)) refl (known read (c .before .before .word .ensures) (c .closed .given .1))
 
@@ -47,7 +44,7 @@ output-format-spec =
     (λ c κs. search needs)
     (λ c. search needs)
     (λ c. search needs)
-    (λ c. lost-here _ (enter (output-format-pays) (c .before .before .before .before .before .before .pre)) refl (known read (c .before .before .word-skip .ensures) (c .enum-told .given .1)))
+    (λ c. lost-here _ (at-entry (c .before .before .before .before .before .before)) refl (known read (c .before .before .word-skip .ensures) (c .enum-told .given .1)))
     (λ c κs. search needs)
     (λ c. search needs)
     (λ c. search needs)

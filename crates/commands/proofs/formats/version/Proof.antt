@@ -1,34 +1,31 @@
 -- The brace that closes the body pays for the record.
 use mathlib.Core.Path.{refl, _∙_}
-use Prim.Native.Nat.{ℕ}
-use mathlib.Core.List.{List}
 use Rattle.rules.specs.Commands as rule
 use Rattle.rules.proofs.Commands.{body-pays, version-pays}
 use Rattle.lex.specs.Contract.{read, taken}
-use Rattle.lex.specs.declared.Cursor.{Cursor}
 use Rattle.lex.proofs.Lexes.{known}
 use Rattle.tape.proofs.Runs.{added}
-use Rattle.tape.proofs.Way.{Way, enter, bytes, earning, can-push, lost-here, ends-here}
+use Rattle.tape.proofs.Way.{On, Further, Way, enter, bytes, earning, can-push, lost-here, ends-here}
 use borrow.Author.Needs.{needs}
 use Rattle.commands.proofs.formats.version.Statement.{statement}
 use Rattle.commands.proofs.formats.version.Tie as tie
 
-abbrev Along : tie.Start → ℕ → List ℕ → Cursor → Type 0
-Along start = Way (rule.version) (start .args .script .now) (start .args .tape .now) (start .args .c)
+abbrev at-entry : (c : tie.Start) → Way (rule.version) (c .args .script .now) (c .args .tape .now) (c .args .c) 0 (c .args .tape .now) (c .args .c)
+at-entry c = enter version-pays (c .pre)
 
-abbrev at-opened : (c : tie.After-opened) → Along (c .before .before .before .before .before .before) 0 (c .before .before .before .before .before .before .args .tape .now) (c .opened .given .0 .0)
+abbrev at-opened : (c : tie.After-opened) → Further (at-entry (c .before .before .before .before .before .before)) (c .opened .given .0 .0)
 unfolding rule.version
-at-opened c = bytes _ (enter (version-pays) (c .before .before .before .before .before .before .pre)) refl (known read (c .before .before .skip-word-skip .ensures) (c .opened .given .1))
+at-opened c = bytes _ (at-entry (c .before .before .before .before .before .before)) refl (known read (c .before .before .skip-word-skip .ensures) (c .opened .given .1))
 
-abbrev at-content : (c : tie.After-content) → Along (c .before .before .before .before .before .before .before .before .before .before) 1 (c .before .before .before .before .before .before .before .before .before .before .args .tape .now) (c .content .given .0 .1 .0)
+abbrev at-content : (c : tie.After-content) → On (at-opened (c .before .before .before .before)) 1 (c .before .before .before .before .before .before .before .before .before .before .args .tape .now) (c .content .given .0 .1 .0)
 unfolding rule.version
 at-content c = earning _ body-pays (at-opened (c .before .before .before .before)) refl (known taken (c .before .before .body .ensures) (c .content .given .1))
 
-abbrev at-skipped : (c : tie.After-skipped) → Along (c .before .before .before .before .before .before .before .before .before .before .before .before .before .before) 1 (c .before .before .before .before .before .before .before .before .before .before .before .before .before .before .args .tape .now) (c .skipped .given .0 .0)
+abbrev at-skipped : (c : tie.After-skipped) → Further (at-content (c .before .before .before .before)) (c .skipped .given .0 .0)
 unfolding rule.version
 at-skipped c = bytes _ (at-content (c .before .before .before .before)) refl (known read (c .before .before .skip .ensures) (c .skipped .given .1))
 
-abbrev at-opt-word : (c : tie.After-opt-word) → Along (c .before .before .before .before .before .before .before .before .before .before .before .before .before .before .before .before .before) 1 (c .before .before .before .before .before .before .before .before .before .before .before .before .before .before .before .before .before .args .tape .now) (c .opt-word .result)
+abbrev at-opt-word : (c : tie.After-opt-word) → Further (at-skipped (c .before .before .before)) (c .opt-word .result)
 unfolding rule.version
 at-opt-word c = bytes _ (at-skipped (c .before .before .before)) refl (c .opt-word .ensures)
 
@@ -41,7 +38,7 @@ version-spec =
     (λ c κs. search needs)
     (λ c. search needs)
     (λ c. search needs)
-    (λ c. lost-here _ (enter (version-pays) (c .before .before .before .before .before .before .pre)) refl (known read (c .before .before .skip-word-skip .ensures) (c .enum-told .given .1)))
+    (λ c. lost-here _ (at-entry (c .before .before .before .before .before .before)) refl (known read (c .before .before .skip-word-skip .ensures) (c .enum-told .given .1)))
     (λ c κs. search needs)
     (λ c. search needs)
     (λ c. search needs)

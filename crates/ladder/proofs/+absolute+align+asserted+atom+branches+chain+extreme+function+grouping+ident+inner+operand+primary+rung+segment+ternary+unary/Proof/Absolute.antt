@@ -2,7 +2,6 @@
 use Prim.Native.Nat.{ℕ}
 use native.Mathlib.Omega.{arith}
 use mathlib.Core.Path.{refl, _∙_}
-use mathlib.Core.List.{List}
 use Rattle.rules.specs.Expressions as rule
 use Rattle.rules.specs.Expressions.{levels}
 use Rattle.rules.proofs.Expressions.{levels-sound, absolute-pays}
@@ -10,8 +9,7 @@ use Rattle.lex.specs.Contract.{read}
 use Rattle.lex.proofs.Lexes.{known}
 use Rattle.tape.specs.Contract.{stepped}
 use Rattle.tape.proofs.Runs.{runs, known-read}
-use Rattle.tape.proofs.Way.{Way, enter, bytes, called, lost-here, ends-here, stops-here}
-use Rattle.lex.specs.declared.Cursor.{Cursor}
+use Rattle.tape.proofs.Way.{On, Further, Way, enter, bytes, called, lost-here, ends-here, stops-here}
 use Rattle.ladder.proofs.+absolute+align+asserted+atom+branches+chain+extreme+function+grouping+ident+inner+operand+primary+rung+segment+ternary+unary.Proof.Common.{absolute-at, inner-below}
 use Rattle.ladder.proofs.absolute.Reads as absolute
 use Rattle.ladder.proofs.inner.Reads as inner
@@ -26,21 +24,18 @@ callees t =
     (word-reads.Asked, word-reads.Learnt, skip-blanks-reads.Asked, skip-blanks-reads.Learnt, inner-below t, inner.Post, close-reads.Asked, close-reads.Learnt)
 
 module _ (t : ℕ) where
-  -- the way to a place, with so many bytes that have no record yet
-  abbrev Along : lts.Start (callees t) (absolute-at t) absolute.Post → ℕ → List ℕ → Cursor → Type 0
-  Along c = Way (rule.absolute (levels (c .args .mode) (c .args .left))) (c .args .script .now) (c .args .tape .now) (c .args .c)
+  abbrev at-entry : (c : lts.Start (callees t) (absolute-at t) absolute.Post) → Way (rule.absolute (levels (c .args .mode) (c .args .left))) (c .args .script .now) (c .args .tape .now) (c .args .c) 0 (c .args .tape .now) (c .args .c)
+  at-entry c = enter (absolute-pays (levels-sound _ _)) (c .pre .1)
 
-  abbrev at-opened : (c : lts.After-opened (callees t) (absolute-at t) absolute.Post) → let start = c .before .before .before .before .before .before in Along (c .before .before .before .before .before .before) 0 (start .args .tape .now) (c .opened .given .0 .0)
+  abbrev at-opened : (c : lts.After-opened (callees t) (absolute-at t) absolute.Post) → Further (at-entry (c .before .before .before .before .before .before)) (c .opened .given .0 .0)
   unfolding rule.absolute
-  at-opened c =
-      let start = c .before .before .before .before .before .before in
-      bytes _ (enter (absolute-pays (levels-sound (start .args .mode) (start .args .left))) (start .pre .1)) refl (known read (c .before .before .word .ensures) (c .opened .given .1))
+  at-opened c = bytes _ (at-entry (c .before .before .before .before .before .before)) refl (known read (c .before .before .word .ensures) (c .opened .given .1))
 
-  abbrev at-skip-blanks : (c : lts.After-skip-blanks (callees t) (absolute-at t) absolute.Post) → let start = c .before .before .before .before .before .before .before .before .before in Along (c .before .before .before .before .before .before .before .before .before) 0 (start .args .tape .now) (c .skip-blanks .result)
+  abbrev at-skip-blanks : (c : lts.After-skip-blanks (callees t) (absolute-at t) absolute.Post) → Further (at-opened (c .before .before .before)) (c .skip-blanks .result)
   unfolding rule.absolute
   at-skip-blanks c = bytes _ (at-opened (c .before .before .before)) refl (c .skip-blanks .ensures)
 
-  abbrev at-value : (c : lts.After-value (callees t) (absolute-at t) absolute.Post) → let inner = c .before .before .before .before .inner in Along (c .before .before .before .before .before .before .before .before .before .before .before .before .before .before) 0 (inner .last .1 .0) (c .value .given .0 .0)
+  abbrev at-value : (c : lts.After-value (callees t) (absolute-at t) absolute.Post) → On (at-skip-blanks (c .before .before .before .before .before)) 0 (c .before .before .before .before .inner .last .1 .0) (c .value .given .0 .0)
   unfolding rule.absolute
   at-value c =
       let inner = c .before .before .before .before .inner in
@@ -48,9 +43,7 @@ module _ (t : ℕ) where
 
   pub returns : lts.Need-returns (callees t) (absolute-at t) absolute.Post
   unfolding rule.absolute
-  returns c =
-      let start = c .before .before .before .before .before .before in
-      lost-here _ (enter (absolute-pays (levels-sound (start .args .mode) (start .args .left))) (start .pre .1)) refl (known read (c .before .before .word .ensures) (c .enum-told .given .1))
+  returns c = lost-here _ (at-entry (c .before .before .before .before .before .before)) refl (known read (c .before .before .word .ensures) (c .enum-told .given .1))
 
   pub inner-requires : lts.Need-inner-requires (callees t) (absolute-at t) absolute.Post
   inner-requires c κs =

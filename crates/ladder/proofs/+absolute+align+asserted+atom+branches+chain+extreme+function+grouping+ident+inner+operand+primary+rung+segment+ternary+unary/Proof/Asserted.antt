@@ -2,7 +2,6 @@
 use Prim.Native.Nat.{ℕ}
 use native.Mathlib.Omega.{arith}
 use mathlib.Core.Path.{refl, _∙_}
-use mathlib.Core.List.{List}
 use Rattle.rules.specs.Expressions as rule
 use Rattle.rules.specs.Expressions.{levels}
 use Rattle.rules.proofs.Expressions.{levels-sound, assert-message-pays, assert-pays}
@@ -10,8 +9,7 @@ use Rattle.lex.specs.Contract.{read, taken}
 use Rattle.lex.proofs.Lexes.{known, here-at}
 use Rattle.tape.specs.Contract.{stepped}
 use Rattle.tape.proofs.Runs.{known-read, added}
-use Rattle.tape.proofs.Way.{Way, enter, bytes, earning, called, can-push, lost-here, ends-here, stops-here}
-use Rattle.lex.specs.declared.Cursor.{Cursor}
+use Rattle.tape.proofs.Way.{On, Further, Way, enter, bytes, earning, called, can-push, lost-here, ends-here, stops-here}
 use Rattle.ladder.proofs.+absolute+align+asserted+atom+branches+chain+extreme+function+grouping+ident+inner+operand+primary+rung+segment+ternary+unary.Proof.Common.{asserted-at, inner-below}
 use Rattle.ladder.proofs.asserted.Reads as asserted
 use Rattle.ladder.proofs.inner.Reads as inner
@@ -26,25 +24,24 @@ callees t =
     (word-skip-reads.Asked, word-skip-reads.Learnt, inner-below t, inner.Post, message-reads.Asked, message-reads.Learnt, push-reads.Asked, push-reads.Learnt)
 
 module _ (t : ℕ) where
-  -- the way to a place, with so many bytes that have no record yet
-  abbrev Along : lts.Start (callees t) (asserted-at t) asserted.Post → ℕ → List ℕ → Cursor → Type 0
-  Along c = Way (rule.assert 39 ((levels (c .args .mode) (c .args .left)) .expressions)) (c .args .script .now) (c .args .tape .now) (c .args .c)
+  abbrev at-entry : (c : lts.Start (callees t) (asserted-at t) asserted.Post) → Way (rule.assert 39 ((levels (c .args .mode) (c .args .left)) .expressions)) (c .args .script .now) (c .args .tape .now) (c .args .c) 0 (c .args .tape .now) (c .args .c)
+  at-entry c = enter (assert-pays 39 ((levels-sound _ _) .expressions)) (c .pre .1)
 
-  abbrev at-opened : (c : lts.After-opened (callees t) (asserted-at t) asserted.Post) → Along (c .before .before .before .before .before .before) 0 (c .before .before .before .before .before .before .args .tape .now) (c .opened .given .0 .0)
+  abbrev at-opened : (c : lts.After-opened (callees t) (asserted-at t) asserted.Post) → Further (at-entry (c .before .before .before .before .before .before)) (c .opened .given .0 .0)
   unfolding rule.assert
-  at-opened c = bytes _ (bytes _ (enter (assert-pays 39 ((levels-sound (c .before .before .before .before .before .before .args .mode) (c .before .before .before .before .before .before .args .left)) .expressions)) (c .before .before .before .before .before .before .pre .1)) refl (here-at)) refl (known read (c .before .before .word-skip .ensures) (c .opened .given .1))
+  at-opened c = bytes _ (bytes _ (at-entry (c .before .before .before .before .before .before)) refl (here-at)) refl (known read (c .before .before .word-skip .ensures) (c .opened .given .1))
 
-  abbrev at-value : (c : lts.After-value (callees t) (asserted-at t) asserted.Post) → Along (c .before .before .before .before .before .before .before .before .before .before .before .before .before) 0 (c .before .before .before .before .inner .last .1 .0) (c .value .given .0 .0)
+  abbrev at-value : (c : lts.After-value (callees t) (asserted-at t) asserted.Post) → On (at-opened (c .before .before .before .before .before .before .before)) 0 (c .before .before .before .before .inner .last .1 .0) (c .value .given .0 .0)
   unfolding rule.assert
   at-value c = called _ (at-opened (c .before .before .before .before .before .before .before)) refl (known-read stepped (c .before .before .before .before .inner .ensures) (c .value .given .1)) (c .before .before .before .before .inner .kept .1 .0)
 
-  abbrev at-text : (c : lts.After-text (callees t) (asserted-at t) asserted.Post) → Along (c .before .before .before .before .before .before .before .before .before .before .before .before .before .before .before .before .before) 1 (c .before .before .before .before .before .before .before .before .inner .last .1 .0) (c .text .given .0 .1 .0)
+  abbrev at-text : (c : lts.After-text (callees t) (asserted-at t) asserted.Post) → On (at-value (c .before .before .before .before)) 1 (c .before .before .before .before .before .before .before .before .inner .last .1 .0) (c .text .given .0 .1 .0)
   unfolding rule.assert
   at-text c = earning _ assert-message-pays (at-value (c .before .before .before .before)) refl (known taken (c .before .before .message .ensures) (c .text .given .1))
 
   pub returns : lts.Need-returns (callees t) (asserted-at t) asserted.Post
   unfolding rule.assert
-  returns c = lost-here _ (bytes _ (enter (assert-pays 39 ((levels-sound (c .before .before .before .before .before .before .args .mode) (c .before .before .before .before .before .before .args .left)) .expressions)) (c .before .before .before .before .before .before .pre .1)) refl (here-at)) refl (known read (c .before .before .word-skip .ensures) (c .enum-told .given .1))
+  returns c = lost-here _ (bytes _ (at-entry (c .before .before .before .before .before .before)) refl (here-at)) refl (known read (c .before .before .word-skip .ensures) (c .enum-told .given .1))
 
   pub inner-requires : lts.Need-inner-requires (callees t) (asserted-at t) asserted.Post
   inner-requires c κs = (omega (arith, c .before .before .before .before .before .before .before .before .pre .0), (at-opened (c .before .before)) .room)

@@ -2,7 +2,6 @@
 use Prim.Native.Nat.{ℕ}
 use native.Mathlib.Omega.{arith}
 use mathlib.Core.Path.{refl, _∙_}
-use mathlib.Core.List.{List}
 use Rattle.rules.specs.Expressions as rule
 use Rattle.rules.specs.Expressions.{levels}
 use Rattle.rules.proofs.Expressions.{levels-sound, branches-pays}
@@ -10,8 +9,7 @@ use Rattle.lex.specs.Contract.{read}
 use Rattle.lex.proofs.Lexes.{known}
 use Rattle.tape.specs.Contract.{stepped}
 use Rattle.tape.proofs.Runs.{known-read, as-bytes, added-then}
-use Rattle.tape.proofs.Way.{Way, enter, bytes, earning, called, can-push, lost-here, ends-here, stops-here}
-use Rattle.lex.specs.declared.Cursor.{Cursor}
+use Rattle.tape.proofs.Way.{On, Further, Way, enter, bytes, earning, called, can-push, lost-here, ends-here, stops-here}
 use Rattle.ladder.proofs.Closing.{colon-pays}
 use Rattle.ladder.proofs.+absolute+align+asserted+atom+branches+chain+extreme+function+grouping+ident+inner+operand+primary+rung+segment+ternary+unary.Proof.Common.{branches-at, inner-below}
 use Rattle.ladder.proofs.branches.Reads as branches
@@ -27,35 +25,32 @@ callees t =
     (skip-blanks-reads.Asked, skip-blanks-reads.Learnt, inner-below t, inner.Post, word-reads.Asked, word-reads.Learnt, push-reads.Asked, push-reads.Learnt)
 
 module _ (t : ℕ) where
-  -- the way to a place, with so many bytes that have no record yet
-  abbrev Along : lts.Start (callees t) (branches-at t) branches.Post → ℕ → List ℕ → Cursor → Type 0
-  Along c = Way (rule.branches (levels (c .args .mode) (c .args .left))) (c .args .script .now) (c .args .tape .now) (c .args .c)
+  abbrev at-entry : (c : lts.Start (callees t) (branches-at t) branches.Post) → Way (rule.branches (levels (c .args .mode) (c .args .left))) (c .args .script .now) (c .args .tape .now) (c .args .c) 0 (c .args .tape .now) (c .args .c)
+  at-entry c = enter (branches-pays (levels-sound _ _)) (c .pre .1)
 
-  abbrev at-skip-blanks : (c : lts.After-skip-blanks (callees t) (branches-at t) branches.Post) → Along (c .before .before .before .before) 0 (c .before .before .before .before .args .tape .now) (c .skip-blanks .result)
+  abbrev at-skip-blanks : (c : lts.After-skip-blanks (callees t) (branches-at t) branches.Post) → Further (at-entry (c .before .before .before .before)) (c .skip-blanks .result)
   unfolding rule.branches
-  at-skip-blanks c =
-      let start = c .before .before .before .before in
-      bytes _ (enter (branches-pays (levels-sound (start .args .mode) (start .args .left))) (start .pre .1)) refl (c .skip-blanks .ensures)
+  at-skip-blanks c = bytes _ (at-entry (c .before .before .before .before)) refl (c .skip-blanks .ensures)
 
-  abbrev at-yes : (c : lts.After-yes (callees t) (branches-at t) branches.Post) → let inner = c .before .before .before .before .inner in Along (c .before .before .before .before .before .before .before .before .before) 0 (inner .last .1 .0) (c .yes .given .0 .0)
+  abbrev at-yes : (c : lts.After-yes (callees t) (branches-at t) branches.Post) → On (at-skip-blanks (c .before .before .before .before .before)) 0 (c .before .before .before .before .inner .last .1 .0) (c .yes .given .0 .0)
   unfolding rule.branches
   at-yes c =
       let inner = c .before .before .before .before .inner in
       called _ (at-skip-blanks (c .before .before .before .before .before)) refl (known-read stepped (inner .ensures) (c .yes .given .1)) (inner .kept .1 .0)
 
-  abbrev at-skip-blanks2 : (c : lts.After-skip-blanks2 (callees t) (branches-at t) branches.Post) → let inner = c .before .before .before .before .before .before .inner in Along (c .before .before .before .before .before .before .before .before .before .before .before) 0 (inner .last .1 .0) (c .skip-blanks2 .result)
+  abbrev at-skip-blanks2 : (c : lts.After-skip-blanks2 (callees t) (branches-at t) branches.Post) → Further (at-yes (c .before .before)) (c .skip-blanks2 .result)
   unfolding rule.branches
   at-skip-blanks2 c = bytes _ (at-yes (c .before .before)) refl (c .skip-blanks2 .ensures)
 
-  abbrev at-colon : (c : lts.After-colon (callees t) (branches-at t) branches.Post) → let inner = c .before .before .before .before .before .before .before .before .before .before .inner in Along (c .before .before .before .before .before .before .before .before .before .before .before .before .before .before .before) 1 (inner .last .1 .0) (c .colon .given .0 .0)
+  abbrev at-colon : (c : lts.After-colon (callees t) (branches-at t) branches.Post) → On (at-skip-blanks2 (c .before .before .before .before)) 1 (c .before .before .before .before .before .before .before .before .before .before .inner .last .1 .0) (c .colon .given .0 .0)
   unfolding rule.branches
   at-colon c = earning _ colon-pays (at-skip-blanks2 (c .before .before .before .before)) refl (known read (c .before .before .word .ensures) (c .colon .given .1))
 
-  abbrev at-skip-blanks3 : (c : lts.After-skip-blanks3 (callees t) (branches-at t) branches.Post) → let inner = c .before .before .before .before .before .before .before .before .before .before .before .before .before .inner in Along (c .before .before .before .before .before .before .before .before .before .before .before .before .before .before .before .before .before .before) 1 (inner .last .1 .0) (c .skip-blanks3 .result)
+  abbrev at-skip-blanks3 : (c : lts.After-skip-blanks3 (callees t) (branches-at t) branches.Post) → Further (at-colon (c .before .before .before)) (c .skip-blanks3 .result)
   unfolding rule.branches
   at-skip-blanks3 c = bytes _ (at-colon (c .before .before .before)) refl (c .skip-blanks3 .ensures)
 
-  abbrev at-no : (c : lts.After-no (callees t) (branches-at t) branches.Post) → let inner2 = c .before .before .before .before .inner2 in Along (c .before .before .before .before .before .before .before .before .before .before .before .before .before .before .before .before .before .before .before .before .before .before .before) 1 (inner2 .last .1 .0) (c .no .given .0 .0)
+  abbrev at-no : (c : lts.After-no (callees t) (branches-at t) branches.Post) → On (at-skip-blanks3 (c .before .before .before .before .before)) 1 (c .before .before .before .before .inner2 .last .1 .0) (c .no .given .0 .0)
   unfolding rule.branches
   at-no c =
       let inner2 = c .before .before .before .before .inner2 in

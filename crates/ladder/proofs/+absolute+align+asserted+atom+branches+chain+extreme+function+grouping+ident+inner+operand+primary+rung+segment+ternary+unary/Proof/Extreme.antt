@@ -2,7 +2,6 @@
 use Prim.Native.Nat.{ℕ}
 use native.Mathlib.Omega.{arith}
 use mathlib.Core.Path.{refl, _∙_}
-use mathlib.Core.List.{List}
 use Rattle.rules.specs.Expressions as rule
 use Rattle.rules.specs.Expressions.{levels}
 use Rattle.rules.proofs.Expressions.{levels-sound, least-or-greatest-pays}
@@ -10,8 +9,7 @@ use Rattle.lex.specs.Contract.{read}
 use Rattle.lex.proofs.Lexes.{known}
 use Rattle.tape.specs.Contract.{stepped}
 use Rattle.tape.proofs.Runs.{runs, known-read}
-use Rattle.tape.proofs.Way.{Way, enter, bytes, called, lost-here, ends-here, stops-here}
-use Rattle.lex.specs.declared.Cursor.{Cursor}
+use Rattle.tape.proofs.Way.{On, Further, Way, enter, bytes, called, lost-here, ends-here, stops-here}
 use Rattle.ladder.proofs.+absolute+align+asserted+atom+branches+chain+extreme+function+grouping+ident+inner+operand+primary+rung+segment+ternary+unary.Proof.Common.{extreme-at, inner-below}
 use Rattle.ladder.proofs.extreme.Reads as extreme
 use Rattle.ladder.proofs.inner.Reads as inner
@@ -26,35 +24,32 @@ callees t =
     (word-reads.Asked, word-reads.Learnt, inner-below t, inner.Post, skip-blanks-reads.Asked, skip-blanks-reads.Learnt, close-reads.Asked, close-reads.Learnt)
 
 module _ (t : ℕ) where
-  -- the way to a place, with so many bytes that have no record yet
-  abbrev Along : lts.Start (callees t) (extreme-at t) extreme.Post → ℕ → List ℕ → Cursor → Type 0
-  Along c = Way (rule.least-or-greatest (levels (c .args .mode) (c .args .left)) (c .args .kind)) (c .args .script .now) (c .args .tape .now) (c .args .c)
+  abbrev at-entry : (c : lts.Start (callees t) (extreme-at t) extreme.Post) → Way (rule.least-or-greatest (levels (c .args .mode) (c .args .left)) (c .args .kind)) (c .args .script .now) (c .args .tape .now) (c .args .c) 0 (c .args .tape .now) (c .args .c)
+  at-entry c = enter (least-or-greatest-pays (levels-sound _ _) _) (c .pre .1)
 
-  abbrev at-opened : (c : lts.After-opened (callees t) (extreme-at t) extreme.Post) → let start = c .before .before .before .before .before .before in Along (c .before .before .before .before .before .before) 0 (start .args .tape .now) (c .opened .given .0 .0)
+  abbrev at-opened : (c : lts.After-opened (callees t) (extreme-at t) extreme.Post) → Further (at-entry (c .before .before .before .before .before .before)) (c .opened .given .0 .0)
   unfolding rule.least-or-greatest
-  at-opened c =
-      let start = c .before .before .before .before .before .before in
-      bytes _ (enter (least-or-greatest-pays (levels-sound (start .args .mode) (start .args .left)) _) (start .pre .1)) refl (known read (c .before .before .word .ensures) (c .opened .given .1))
+  at-opened c = bytes _ (at-entry (c .before .before .before .before .before .before)) refl (known read (c .before .before .word .ensures) (c .opened .given .1))
 
-  abbrev at-one : (c : lts.After-one (callees t) (extreme-at t) extreme.Post) → let inner = c .before .before .before .before .inner in Along (c .before .before .before .before .before .before .before .before .before .before .before .before .before) 0 (inner .last .1 .0) (c .one .given .0 .0)
+  abbrev at-one : (c : lts.After-one (callees t) (extreme-at t) extreme.Post) → On (at-opened (c .before .before .before .before .before .before .before)) 0 (c .before .before .before .before .inner .last .1 .0) (c .one .given .0 .0)
   unfolding rule.least-or-greatest
   at-one c =
       let inner = c .before .before .before .before .inner in
       called _ (at-opened (c .before .before .before .before .before .before .before)) refl (known-read stepped (inner .ensures) (c .one .given .1)) (inner .kept .1 .0)
 
-  abbrev at-skip-blanks : (c : lts.After-skip-blanks (callees t) (extreme-at t) extreme.Post) → let inner = c .before .before .before .before .before .before .inner in Along (c .before .before .before .before .before .before .before .before .before .before .before .before .before .before .before) 0 (inner .last .1 .0) (c .skip-blanks .result)
+  abbrev at-skip-blanks : (c : lts.After-skip-blanks (callees t) (extreme-at t) extreme.Post) → Further (at-one (c .before .before)) (c .skip-blanks .result)
   unfolding rule.least-or-greatest
   at-skip-blanks c = bytes _ (at-one (c .before .before)) refl (c .skip-blanks .ensures)
 
-  abbrev at-comma : (c : lts.After-comma (callees t) (extreme-at t) extreme.Post) → let inner = c .before .before .before .before .before .before .before .before .before .before .inner in Along (c .before .before .before .before .before .before .before .before .before .before .before .before .before .before .before .before .before .before .before) 0 (inner .last .1 .0) (c .comma .given .0 .0)
+  abbrev at-comma : (c : lts.After-comma (callees t) (extreme-at t) extreme.Post) → Further (at-skip-blanks (c .before .before .before .before)) (c .comma .given .0 .0)
   unfolding rule.least-or-greatest
   at-comma c = bytes _ (at-skip-blanks (c .before .before .before .before)) refl (known read (c .before .before .word2 .ensures) (c .comma .given .1))
 
-  abbrev at-skip-blanks2 : (c : lts.After-skip-blanks2 (callees t) (extreme-at t) extreme.Post) → let inner = c .before .before .before .before .before .before .before .before .before .before .before .before .before .inner in Along (c .before .before .before .before .before .before .before .before .before .before .before .before .before .before .before .before .before .before .before .before .before .before) 0 (inner .last .1 .0) (c .skip-blanks2 .result)
+  abbrev at-skip-blanks2 : (c : lts.After-skip-blanks2 (callees t) (extreme-at t) extreme.Post) → Further (at-comma (c .before .before .before)) (c .skip-blanks2 .result)
   unfolding rule.least-or-greatest
   at-skip-blanks2 c = bytes _ (at-comma (c .before .before .before)) refl (c .skip-blanks2 .ensures)
 
-  abbrev at-two : (c : lts.After-two (callees t) (extreme-at t) extreme.Post) → let inner2 = c .before .before .before .before .inner2 in Along (c .before .before .before .before .before .before .before .before .before .before .before .before .before .before .before .before .before .before .before .before .before .before .before .before .before .before .before) 0 (inner2 .last .1 .0) (c .two .given .0 .0)
+  abbrev at-two : (c : lts.After-two (callees t) (extreme-at t) extreme.Post) → On (at-skip-blanks2 (c .before .before .before .before .before)) 0 (c .before .before .before .before .inner2 .last .1 .0) (c .two .given .0 .0)
   unfolding rule.least-or-greatest
   at-two c =
       let inner2 = c .before .before .before .before .inner2 in
@@ -62,9 +57,7 @@ module _ (t : ℕ) where
 
   pub returns : lts.Need-returns (callees t) (extreme-at t) extreme.Post
   unfolding rule.least-or-greatest
-  returns c =
-      let start = c .before .before .before .before .before .before in
-      lost-here _ (enter (least-or-greatest-pays (levels-sound (start .args .mode) (start .args .left)) _) (start .pre .1)) refl (known read (c .before .before .word .ensures) (c .enum-told .given .1))
+  returns c = lost-here _ (at-entry (c .before .before .before .before .before .before)) refl (known read (c .before .before .word .ensures) (c .enum-told .given .1))
 
   pub inner-requires : lts.Need-inner-requires (callees t) (extreme-at t) extreme.Post
   inner-requires c κs =

@@ -2,7 +2,6 @@
 use Prim.Native.Nat.{ℕ}
 use native.Mathlib.Omega.{arith}
 use mathlib.Core.Path.{refl, _∙_}
-use mathlib.Core.List.{List}
 use Rattle.rules.specs.Expressions as rule
 use Rattle.rules.specs.Expressions.{levels}
 use Rattle.rules.proofs.Expressions.{levels-sound, grouping-pays}
@@ -10,8 +9,7 @@ use Rattle.lex.specs.Contract.{read}
 use Rattle.lex.proofs.Lexes.{known}
 use Rattle.tape.specs.Contract.{stepped}
 use Rattle.tape.proofs.Runs.{known-read, as-bytes, as-lost}
-use Rattle.tape.proofs.Way.{Way, enter, bytes, called, lost-here, ends-here, stops-here}
-use Rattle.lex.specs.declared.Cursor.{Cursor}
+use Rattle.tape.proofs.Way.{On, Further, Way, enter, bytes, called, lost-here, ends-here, stops-here}
 use Rattle.ladder.proofs.+absolute+align+asserted+atom+branches+chain+extreme+function+grouping+ident+inner+operand+primary+rung+segment+ternary+unary.Proof.Common.{grouping-at, inner-below}
 use Rattle.ladder.proofs.grouping.Reads as grouping
 use Rattle.ladder.proofs.inner.Reads as inner
@@ -24,17 +22,14 @@ callees t =
     (word-reads.Asked, word-reads.Learnt, inner-below t, inner.Post)
 
 module _ (t : ℕ) where
-  -- the way to a place, with so many bytes that have no record yet
-  abbrev Along : lts.Start (callees t) (grouping-at t) grouping.Post → ℕ → List ℕ → Cursor → Type 0
-  Along c = Way (rule.grouping (levels (c .args .mode) (c .args .left))) (c .args .script .now) (c .args .tape .now) (c .args .c)
+  abbrev at-entry : (c : lts.Start (callees t) (grouping-at t) grouping.Post) → Way (rule.grouping (levels (c .args .mode) (c .args .left))) (c .args .script .now) (c .args .tape .now) (c .args .c) 0 (c .args .tape .now) (c .args .c)
+  at-entry c = enter (grouping-pays (levels-sound _ _)) (c .pre .1)
 
-  abbrev at-opened : (c : lts.After-opened (callees t) (grouping-at t) grouping.Post) → let start = c .before .before .before .before .before .before in Along (c .before .before .before .before .before .before) 0 (start .args .tape .now) (c .opened .given .0 .0)
+  abbrev at-opened : (c : lts.After-opened (callees t) (grouping-at t) grouping.Post) → Further (at-entry (c .before .before .before .before .before .before)) (c .opened .given .0 .0)
   unfolding rule.grouping
-  at-opened c =
-      let start = c .before .before .before .before .before .before in
-      bytes _ (enter (grouping-pays (levels-sound (start .args .mode) (start .args .left))) (start .pre .1)) refl (known read (c .before .before .word .ensures) (c .opened .given .1))
+  at-opened c = bytes _ (at-entry (c .before .before .before .before .before .before)) refl (known read (c .before .before .word .ensures) (c .opened .given .1))
 
-  abbrev at-value : (c : lts.After-value (callees t) (grouping-at t) grouping.Post) → let inner = c .before .before .before .before .inner in Along (c .before .before .before .before .before .before .before .before .before .before .before .before .before) 0 (inner .last .1 .0) (c .value .given .0 .0)
+  abbrev at-value : (c : lts.After-value (callees t) (grouping-at t) grouping.Post) → On (at-opened (c .before .before .before .before .before .before .before)) 0 (c .before .before .before .before .inner .last .1 .0) (c .value .given .0 .0)
   unfolding rule.grouping
   at-value c =
       let inner = c .before .before .before .before .inner in
@@ -42,9 +37,7 @@ module _ (t : ℕ) where
 
   pub returns : lts.Need-returns (callees t) (grouping-at t) grouping.Post
   unfolding rule.grouping
-  returns c =
-      let start = c .before .before .before .before .before .before in
-      lost-here _ (enter (grouping-pays (levels-sound (start .args .mode) (start .args .left))) (start .pre .1)) refl (known read (c .before .before .word .ensures) (c .enum-told .given .1))
+  returns c = lost-here _ (at-entry (c .before .before .before .before .before .before)) refl (known read (c .before .before .word .ensures) (c .enum-told .given .1))
 
   pub inner-requires : lts.Need-inner-requires (callees t) (grouping-at t) grouping.Post
   inner-requires c κs =

@@ -2,7 +2,6 @@
 use Prim.Native.Nat.{ℕ}
 use native.Mathlib.Omega.{arith}
 use mathlib.Core.Path.{refl, _∙_}
-use mathlib.Core.List.{List}
 use Rattle.rules.specs.Expressions as rule
 use Rattle.rules.specs.Expressions.{levels}
 use Rattle.rules.proofs.Expressions.{levels-sound, segment-start-pays}
@@ -10,8 +9,7 @@ use Rattle.lex.specs.Contract.{taken}
 use Rattle.lex.proofs.Lexes.{known}
 use Rattle.tape.specs.Contract.{stepped}
 use Rattle.tape.proofs.Runs.{runs, known-read}
-use Rattle.tape.proofs.Way.{Way, enter, bytes, called, lost-here, ends-here, stops-here}
-use Rattle.lex.specs.declared.Cursor.{Cursor}
+use Rattle.tape.proofs.Way.{On, Further, Way, enter, bytes, called, lost-here, ends-here, stops-here}
 use Rattle.ladder.proofs.+absolute+align+asserted+atom+branches+chain+extreme+function+grouping+ident+inner+operand+primary+rung+segment+ternary+unary.Proof.Common.{segment-at, inner-below}
 use Rattle.ladder.proofs.segment.Reads as segment
 use Rattle.ladder.proofs.inner.Reads as inner
@@ -25,17 +23,14 @@ callees t =
     (segment-head-at-reads.Asked, segment-head-at-reads.Learnt, inner-below t, inner.Post, close-reads.Asked, close-reads.Learnt)
 
 module _ (t : ℕ) where
-  -- the way to a place, with so many bytes that have no record yet
-  abbrev Along : lts.Start (callees t) (segment-at t) segment.Post → ℕ → List ℕ → Cursor → Type 0
-  Along c = Way (rule.segment-start (levels (c .args .mode) (c .args .left))) (c .args .script .now) (c .args .tape .now) (c .args .c)
+  abbrev at-entry : (c : lts.Start (callees t) (segment-at t) segment.Post) → Way (rule.segment-start (levels (c .args .mode) (c .args .left))) (c .args .script .now) (c .args .tape .now) (c .args .c) 0 (c .args .tape .now) (c .args .c)
+  at-entry c = enter (segment-start-pays (levels-sound _ _)) (c .pre .1)
 
-  abbrev at-head : (c : lts.After-head (callees t) (segment-at t) segment.Post) → let start = c .before .before .before .before .before in Along (c .before .before .before .before .before) 0 (start .args .tape .now) (c .head .given .0 .1 .0)
+  abbrev at-head : (c : lts.After-head (callees t) (segment-at t) segment.Post) → Further (at-entry (c .before .before .before .before .before)) (c .head .given .0 .1 .0)
   unfolding rule.segment-start
-  at-head c =
-      let start = c .before .before .before .before .before in
-      bytes _ (enter (segment-start-pays (levels-sound (start .args .mode) (start .args .left))) (start .pre .1)) refl (known taken (c .before .before .segment-head-at .ensures) (c .head .given .1))
+  at-head c = bytes _ (at-entry (c .before .before .before .before .before)) refl (known taken (c .before .before .segment-head-at .ensures) (c .head .given .1))
 
-  abbrev at-value : (c : lts.After-value (callees t) (segment-at t) segment.Post) → let inner = c .before .before .before .before .inner in Along (c .before .before .before .before .before .before .before .before .before .before .before .before) 0 (inner .last .1 .0) (c .value .given .0 .0)
+  abbrev at-value : (c : lts.After-value (callees t) (segment-at t) segment.Post) → On (at-head (c .before .before .before .before .before .before .before)) 0 (c .before .before .before .before .inner .last .1 .0) (c .value .given .0 .0)
   unfolding rule.segment-start
   at-value c =
       let inner = c .before .before .before .before .inner in
@@ -45,7 +40,7 @@ module _ (t : ℕ) where
   unfolding rule.segment-start
   returns c =
       let start = c .before .before .before .before .before in
-      lost-here _ (enter (segment-start-pays (levels-sound (start .args .mode) (start .args .left))) (start .pre .1)) refl (known taken (c .before .before .segment-head-at .ensures) (c .enum-told .given .1))
+      lost-here _ (at-entry start) refl (known taken (c .before .before .segment-head-at .ensures) (c .enum-told .given .1))
 
   pub inner-requires : lts.Need-inner-requires (callees t) (segment-at t) segment.Post
   inner-requires c κs =

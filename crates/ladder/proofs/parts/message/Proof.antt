@@ -4,7 +4,7 @@ use Rattle.rules.specs.Expressions.{assert-message}
 use Rattle.lex.specs.Contract.{Lexes, read, taken}
 use Rattle.lex.specs.declared.Cursor.{Cursor}
 use Rattle.lex.proofs.Lexes.{known, given}
-use Rattle.lex.proofs.Way.{Trail, set-out, past, missed, arrived}
+use Rattle.lex.proofs.Way.{Trail, On, set-out, past, missed, arrived}
 use borrow.Author.Needs.{needs}
 use Rattle.ladder.proofs.parts.message.Statement.{statement}
 use Rattle.ladder.proofs.parts.message.Tie as tie
@@ -16,11 +16,11 @@ abbrev at-comma : (c : tie.After-comma) → Along (c .before .before .before .be
 unfolding assert-message
 at-comma c = past set-out _ refl (known read (c .before .before .skip-word-skip .ensures) (c .comma .given .1))
 
-abbrev at-text : (c : tie.After-text) → Along (c .before .before .before .before .before .before .before .before .before) (c .text .given .0 .1 .0)
+abbrev at-text : (c : tie.After-text) → On (at-comma (c .before .before .before .before)) (c .text .given .0 .1 .0)
 unfolding assert-message
 at-text c = past (at-comma (c .before .before .before .before)) _ refl (known taken (c .before .before .token .ensures) (c .text .given .1))
 
-abbrev at-closed : (c : tie.After-closed) → Along (c .before .before .before .before .before .before .before .before .before .before .before .before .before .before) (c .closed .given .0 .0)
+abbrev at-closed : (c : tie.After-closed) → On (at-text (c .before .before .before .before .before)) (c .closed .given .0 .0)
 unfolding assert-message
 at-closed c = past (at-text (c .before .before .before .before .before)) _ refl (known read (c .before .before .skip-word-skip2 .ensures) (c .closed .given .1))
 

@@ -4,7 +4,7 @@ use Rattle.rules.specs.Bytes.{skip-tag-skip}
 use Rattle.lex.specs.Contract.{Lexes, read}
 use Rattle.lex.specs.declared.Cursor.{Cursor}
 use Rattle.lex.proofs.Lexes.{known}
-use Rattle.lex.proofs.Way.{Trail, set-out, past, missed, arrived}
+use Rattle.lex.proofs.Way.{Trail, On, set-out, past, missed, arrived}
 use borrow.Author.Needs.{needs}
 use Rattle.lex.proofs.Cursor.skip_word_skip.Statement.{statement}
 use Rattle.lex.proofs.Cursor.skip_word_skip.Tie as tie
@@ -16,7 +16,7 @@ abbrev at-skipped : (c : tie.After-skipped) → Along (c .before .before .before
 unfolding skip-tag-skip
 at-skipped c = past set-out _ refl (known read (c .before .before .skip .ensures) (c .skipped .given .1))
 
-abbrev at-found : (c : tie.After-found) → Along (c .before .before .before .before .before .before .before .before .before) (c .found .given .0 .0)
+abbrev at-found : (c : tie.After-found) → On (at-skipped (c .before .before .before .before)) (c .found .given .0 .0)
 unfolding skip-tag-skip
 at-found c = past (at-skipped (c .before .before .before .before)) _ refl (known read (c .before .before .word .ensures) (c .found .given .1))
 
