@@ -1,6 +1,7 @@
 // How the input is cut into cases: a line with a letter and a length, as many bytes, and a line end.
+ghost use mathlib.Core.Path.{_≡_};
 ghost use lib.ListN.{length};
-ghost use Rattle.lextest.specs.Cases.{Ahead};
+ghost use Rattle.lextest.specs.Cases.{case, Ahead};
 use fields::Field;
 
 // A case: its letter, where its bytes are, and the place after it.
@@ -16,6 +17,7 @@ pub enum Case {
 
 // The case that begins at a place.
 pub fn case_at(input: &[u8], at: usize) -> Case
+    ensures { λ r. ⌜ r ≡ case (now (input .entry)) at ⌝ }
     ensures { λ r. ⌜ Ahead (length (now (input .entry))) at r ⌝ }
 {
     if input.len() < 2 {

@@ -1,6 +1,7 @@
 // How the input is cut into cases: a line with a mode, how often the head stands, and the lengths of head and tail; then their bytes and a line end.
+ghost use mathlib.Core.Path.{_≡_};
 ghost use lib.ListN.{length};
-ghost use Rattle.readtest.specs.Cases.{Headed, Ahead};
+ghost use Rattle.readtest.specs.Cases.{header, case, Headed, Ahead};
 use fields::Field;
 
 // The four numbers of a case, and the place after their line.
@@ -30,6 +31,7 @@ pub enum Case {
 
 // The header line that begins at a place.
 pub fn header_at(input: &[u8], at: usize) -> Header
+    ensures { λ r. ⌜ r ≡ header (now (input .entry)) at ⌝ }
     ensures { λ r. ⌜ Headed (length (now (input .entry))) at r ⌝ }
 {
     let first = fields::field_at(input, at, b' ');
@@ -59,6 +61,7 @@ pub fn header_at(input: &[u8], at: usize) -> Header
 
 // The case that begins at a place.
 pub fn case_at(input: &[u8], at: usize) -> Case
+    ensures { λ r. ⌜ r ≡ case (now (input .entry)) at ⌝ }
     ensures { λ r. ⌜ Ahead (length (now (input .entry))) at r ⌝ }
 {
     let line = header_at(input, at);

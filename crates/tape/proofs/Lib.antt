@@ -2,3 +2,4 @@
 mod Words
 pub mod Runs
 pub mod Way
+pub mod Unique

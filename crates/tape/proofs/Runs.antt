@@ -61,17 +61,9 @@ known-run {n = n} {rule} {s} {t} {c} {t′} view x e = subst (λ r. Runs n rule 
 
 module _ {s t : List ℕ} {c : Cursor} where
   -- AFTER BYTES, which hold what was held
-  module _ {A B : Type 0} {m : Rule A} (n : A → Rule B) where
-    pub bytes-then : {a : A} {e : Cursor} {r : Went B} {t′ : List ℕ} → Lexes m s c (went a e) → Run (n a) s t e r t′ → Run (m >>= n) s t c r t′
-    unfolding _>>=_
-    bytes-then {a} {e} {r} {t′} x y = let q : c .count ≡ e .count = sym (x .moved .count) in record {
-      said = rw (x .said (holds (c .count) t), q) (y .said);
-      kept = rw q (y .kept);
-    }
-
-    pub bytes-stop : Lexes m s c lost → Run (m >>= n) s t c lost t
-    unfolding _>>=_
-    bytes-stop x = record { said = rw (x .said (holds (c .count) t)); kept = refl }
+  pub bytes-then : {A B : Type 0} {m : Rule A} (n : A → Rule B) {a : A} {e : Cursor} {r : Went B} {t′ : List ℕ} → Lexes m s c (went a e) → Run (n a) s t e r t′ → Run (m >>= n) s t c r t′
+  unfolding _>>=_
+  bytes-then n {e = e} x y = let q : c .count ≡ e .count = sym (x .moved .count) in record { said = rw (x .said (holds (c .count) t), q) (y .said); kept = rw q (y .kept) }
 
   -- tries
   pub second-run : {A : Type 0} {m n : Rule A} {r : Went A} {t′ : List ℕ} → Lexes m s c lost → Run n s t c r t′ → Run (m or-else n) s t c r t′

@@ -19,7 +19,7 @@ ahead :
     (c : tie.After-case Inv-loop μ-loop) →
     (c .before .before .before .before .loop .at < c .case .given .0 .1 .1 .1 .0) ×
     (c .case .given .0 .1 .1 .1 .0 ≤ length (c .before .before .before .before .before .before .args .input .now))
-ahead c = subst (Ahead _ _) (c .case .given .1) (c .before .before .case-at .ensures)
+ahead c = subst (Ahead _ _) (c .case .given .1) (c .before .before .case-at .ensures .1)
 
 pub run-all-spec : {M : Type 1} → statement M
 run-all-spec =

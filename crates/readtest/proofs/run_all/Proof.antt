@@ -34,6 +34,6 @@ run-all-spec =
     (λ c κs. search needs)
     (λ c κs. search needs)
     (λ c. search needs)
-    (λ c. let ends = subst (Ahead _ _) (c .before .before .before .before .before .before .before .before .case .given .1) (c .before .before .before .before .before .before .before .before .before .before .case-at .ensures) in omega arith)
-    (λ c. let ends = subst (Ahead _ _) (c .before .before .before .before .before .before .before .before .case .given .1) (c .before .before .before .before .before .before .before .before .before .before .case-at .ensures) in (omega arith, omega arith))
+    (λ c. let ends = subst (Ahead _ _) (c .before .before .before .before .before .before .before .before .case .given .1) (c .before .before .before .before .before .before .before .before .before .before .case-at .ensures .1) in omega arith)
+    (λ c. let ends = subst (Ahead _ _) (c .before .before .before .before .before .before .before .before .case .given .1) (c .before .before .before .before .before .before .before .before .before .before .case-at .ensures .1) in (omega arith, omega arith))
     (λ c. search needs))

@@ -45,83 +45,56 @@ module _ (t : ℕ) where
 
   pub returns : lts.Need-returns (callees t) (function-at t) function.Post
   unfolding rule.function keyword-of numbered words same if_then_else_
-  returns c =
-      let match = c .before .before .before .before .match in
-      rw (match .keys1) (c .before .before .named .ensures)
+  returns c = rw (c .before .before .before .before .match .keys1) (c .before .before .named .ensures)
 
   pub returns-2 : lts.Need-returns-2 (callees t) (function-at t) function.Post
   unfolding rule.function keyword-of numbered words same if_then_else_
-  returns-2 c =
-      let match = c .before .before .before .before .match in
-      rw (match .keys2) (c .before .before .named2 .ensures)
+  returns-2 c = rw (c .before .before .before .before .match .keys2) (c .before .before .named2 .ensures)
 
   pub returns-3 : lts.Need-returns-3 (callees t) (function-at t) function.Post
   unfolding rule.function keyword-of numbered words same if_then_else_
-  returns-3 c =
-      let match = c .before .before .before .before .match in
-      rw (match .keys3) (c .before .before .named3 .ensures)
+  returns-3 c = rw (c .before .before .before .before .match .keys3) (c .before .before .named3 .ensures)
 
   pub returns-4 : lts.Need-returns-4 (callees t) (function-at t) function.Post
   unfolding rule.function keyword-of numbered words same if_then_else_
-  returns-4 c =
-      let match = c .before .before .before .before .match in
-      rw (match .keys4) (c .before .before .named4 .ensures)
+  returns-4 c = rw (c .before .before .before .before .match .keys4) (c .before .before .named4 .ensures)
 
   pub returns-5 : lts.Need-returns-5 (callees t) (function-at t) function.Post
   unfolding rule.function keyword-of numbered words same if_then_else_
-  returns-5 c =
-      let match = c .before .before .before .before .match in
-      rw (match .keys5) (c .before .before .named5 .ensures)
+  returns-5 c = rw (c .before .before .before .before .match .keys5) (c .before .before .named5 .ensures)
 
   pub returns-6 : lts.Need-returns-6 (callees t) (function-at t) function.Post
   unfolding rule.function keyword-of numbered words same if_then_else_
-  returns-6 c =
-      let match = c .before .before .before .before .match in
-      rw (match .keys6) (c .before .before .named6 .ensures)
+  returns-6 c = rw (c .before .before .before .before .match .keys6) (c .before .before .named6 .ensures)
 
   pub returns-7 : lts.Need-returns-7 (callees t) (function-at t) function.Post
   unfolding rule.function keyword-of numbered words same if_then_else_
-  returns-7 c =
-      let match = c .before .before .before .before .match in
-      rw (match .keys7) (c .before .before .align .ensures)
+  returns-7 c = rw (c .before .before .before .before .match .keys7) (c .before .before .align .ensures)
 
   pub returns-8 : lts.Need-returns-8 (callees t) (function-at t) function.Post
   unfolding rule.function keyword-of numbered words same if_then_else_
-  returns-8 c =
-      let match = c .before .before .before .before .match in
-      rw (match .keys8) (c .before .before .extreme .ensures)
+  returns-8 c = rw (c .before .before .before .before .match .keys8) (c .before .before .extreme .ensures)
 
   pub returns-9 : lts.Need-returns-9 (callees t) (function-at t) function.Post
   unfolding rule.function keyword-of numbered words same if_then_else_
-  returns-9 c =
-      let match = c .before .before .before .before .match in
-      rw (match .keys9) (c .before .before .extreme2 .ensures)
+  returns-9 c = rw (c .before .before .before .before .match .keys9) (c .before .before .extreme2 .ensures)
 
   pub returns-10 : lts.Need-returns-10 (callees t) (function-at t) function.Post
   unfolding rule.function keyword-of numbered words same if_then_else_
-  returns-10 c =
-      let match = c .before .before .before .before .match in
-      rw (match .keys10) (c .before .before .segment .ensures)
+  returns-10 c = rw (c .before .before .before .before .match .keys10) (c .before .before .segment .ensures)
 
   pub returns-11 : lts.Need-returns-11 (callees t) (function-at t) function.Post
   unfolding rule.function keyword-of numbered words same if_then_else_
-  returns-11 c =
-      let match = c .before .before .before .before .match in
-      rw (match .keys11) (c .before .before .named7 .ensures)
+  returns-11 c = rw (c .before .before .before .before .match .keys11) (c .before .before .named7 .ensures)
 
   pub returns-12 : lts.Need-returns-12 (callees t) (function-at t) function.Post
   unfolding rule.function keyword-of numbered words same if_then_else_
-  returns-12 c =
-      let match = c .before .before .before .before .match in
-      rw (match .keys12) (c .before .before .asserted .ensures)
+  returns-12 c = rw (c .before .before .before .before .match .keys12) (c .before .before .asserted .ensures)
 
   pub returns-13 : lts.Need-returns-13 (callees t) (function-at t) function.Post
   unfolding rule.function keyword-of numbered words same if_then_else_
-  returns-13 c =
-      let match = c .before .before .before .before .match in
-      rw (match .keys13) (c .before .before .absolute .ensures)
+  returns-13 c = rw (c .before .before .before .before .match .keys13) (c .before .before .absolute .ensures)
 
   pub returns-14 : lts.Need-returns-14 (callees t) (function-at t) function.Post
   unfolding rule.function keyword-of numbered words same if_then_else_
-  returns-14 c =
-      rw (ne-eqb _ 27 (c .match .rest .0 .0 .0 .0 .0 .0 .0 .0 .0 .0 .0 .0 .1), ne-eqb _ 28 (c .match .rest .0 .0 .0 .0 .0 .0 .0 .0 .0 .0 .0 .1), ne-eqb _ 29 (c .match .rest .0 .0 .0 .0 .0 .0 .0 .0 .0 .0 .1), ne-eqb _ 30 (c .match .rest .0 .0 .0 .0 .0 .0 .0 .0 .0 .1), ne-eqb _ 31 (c .match .rest .0 .0 .0 .0 .0 .0 .0 .0 .1), ne-eqb _ 32 (c .match .rest .0 .0 .0 .0 .0 .0 .0 .1), ne-eqb _ 33 (c .match .rest .0 .0 .0 .0 .0 .0 .1), ne-eqb _ 34 (c .match .rest .0 .0 .0 .0 .0 .1), ne-eqb _ 35 (c .match .rest .0 .0 .0 .0 .1), ne-eqb _ 36 (c .match .rest .0 .0 .0 .1), ne-eqb _ 37 (c .match .rest .0 .0 .1), ne-eqb _ 11 (c .match .rest .0 .1), ne-eqb _ 38 (c .match .rest .1)) (met (λ f i. wrong) (c .before .before .before .pre .1) (as-lost refused))
+  returns-14 c = rw (ne-eqb _ 27 (c .match .rest .0 .0 .0 .0 .0 .0 .0 .0 .0 .0 .0 .0 .1), ne-eqb _ 28 (c .match .rest .0 .0 .0 .0 .0 .0 .0 .0 .0 .0 .0 .1), ne-eqb _ 29 (c .match .rest .0 .0 .0 .0 .0 .0 .0 .0 .0 .0 .1), ne-eqb _ 30 (c .match .rest .0 .0 .0 .0 .0 .0 .0 .0 .0 .1), ne-eqb _ 31 (c .match .rest .0 .0 .0 .0 .0 .0 .0 .0 .1), ne-eqb _ 32 (c .match .rest .0 .0 .0 .0 .0 .0 .0 .1), ne-eqb _ 33 (c .match .rest .0 .0 .0 .0 .0 .0 .1), ne-eqb _ 34 (c .match .rest .0 .0 .0 .0 .0 .1), ne-eqb _ 35 (c .match .rest .0 .0 .0 .0 .1), ne-eqb _ 36 (c .match .rest .0 .0 .0 .1), ne-eqb _ 37 (c .match .rest .0 .0 .1), ne-eqb _ 11 (c .match .rest .0 .1), ne-eqb _ 38 (c .match .rest .1)) (met (λ f i. wrong) (c .before .before .before .pre .1) (as-lost refused))

@@ -1,19 +1,20 @@
 -- The bracket pays for the record.
-use Prim.Native.Nat.{_+_, _*_, _≤_}
-use borrow.Author.Needs.{needs}
-use lib.ListN.{length}
+use mathlib.Core.Path.{refl}
+use Rattle.rules.specs.Rule.{_>>_, word, add}
 use Rattle.lex.specs.Contract.{read}
-use Rattle.lex.proofs.Lexes.{known, earned}
-use Rattle.tape.proofs.Runs.{met, bytes-then, bytes-stop, added, space}
+use Rattle.lex.proofs.Lexes.{known}
+use Rattle.tape.proofs.Runs.{added}
+use Rattle.tape.proofs.Way.{On, Way, enter, earning, can-push, lost-here, ends-here}
 use Rattle.ladder.proofs.Closing.{finished-pays, bracket-pays}
+use borrow.Author.Needs.{needs}
 use Rattle.ladder.proofs.parts.finish.Statement.{statement}
 use Rattle.ladder.proofs.parts.finish.Tie as tie
 
-room : (c : tie.After-ended) → let start = c .before .before .before .before .before .before in 5 * c .ended .given .0 .0 .count + 5 ≤ length (start .args .tape .now)
-room c =
-    let start = c .before .before .before .before .before .before in
-    let x = known read (c .before .before .word .ensures) (c .ended .given .1) in
-    space (start .pre) (x .moved) (earned bracket-pays x)
+abbrev at-entry : (c : tie.Start) → Way (word ")" >> add (c .args .kind) (c .args .a) (c .args .b) 0 0) (c .args .script .now) (c .args .tape .now) (c .args .c) 0 (c .args .tape .now) (c .args .c)
+at-entry c = enter (finished-pays _ _ _ _ _) (c .pre)
+
+abbrev at-ended : (c : tie.After-ended) → On (at-entry (c .before .before .before .before .before .before)) 1 (c .before .before .before .before .before .before .args .tape .now) (c .ended .given .0 .0)
+at-ended c = earning _ bracket-pays (at-entry (c .before .before .before .before .before .before)) refl (known read (c .before .before .word .ensures) (c .ended .given .1))
 
 pub finish-spec : {M : Type 1} → statement M
 finish-spec =
@@ -23,7 +24,7 @@ finish-spec =
     (λ c κs. search needs)
     (λ c. search needs)
     (λ c. search needs)
-    (λ c. let start = c .before .before .before .before .before .before in met (finished-pays _ _ _ _ _) (start .pre) (bytes-stop _ (known read (c .before .before .word .ensures) (c .enum-told .given .1))))
-    (λ c κs. room (c .before .before))
+    (λ c. lost-here _ (at-entry (c .before .before .before .before .before .before)) refl (known read (c .before .before .word .ensures) (c .enum-told .given .1)))
+    (λ c κs. can-push (at-ended (c .before .before)))
     (λ c. search needs)
-    (λ c. let start = c .before .before .before .before .before .before .before .before .before .before .before in let word = c .before .before .before .before .before .before .before .word in let ended = c .before .before .before .before .before .ended in met (finished-pays _ _ _ _ _) (start .pre) (bytes-then _ (known read (word .ensures) (ended .given .1)) (added _ _ _ _ _ (c .before .before .push .ensures) (room (c .before .before .before .before .before))))))
+    (λ c. ends-here (at-ended (c .before .before .before .before .before)) (added _ _ _ _ _ (c .before .before .push .ensures) (can-push (at-ended (c .before .before .before .before .before))))))

@@ -1,20 +1,21 @@
 -- The name pays for the record.
-use Prim.Native.Nat.{_+_, _*_, _≤_}
-use borrow.Author.Needs.{needs}
-use lib.ListN.{length}
+use mathlib.Core.Path.{refl}
 use Rattle.rules.specs.Expressions.{named as named-rule}
 use Rattle.rules.proofs.Expressions.{named-pays, function-arg-pays}
 use Rattle.lex.specs.Contract.{taken}
-use Rattle.lex.proofs.Lexes.{known, earned}
-use Rattle.tape.proofs.Runs.{met, bytes-then, bytes-stop, added, space}
+use Rattle.lex.proofs.Lexes.{known}
+use Rattle.tape.proofs.Runs.{added}
+use Rattle.tape.proofs.Way.{On, Way, enter, earning, can-push, lost-here, ends-here}
+use borrow.Author.Needs.{needs}
 use Rattle.ladder.proofs.parts.named.Statement.{statement}
 use Rattle.ladder.proofs.parts.named.Tie as tie
 
-room : (c : tie.After-name) → let start = c .before .before .before .before .before in 5 * c .name .given .0 .1 .0 .count + 5 ≤ length (start .args .tape .now)
-room c =
-    let start = c .before .before .before .before .before in
-    let x = known taken (c .before .before .function-argument .ensures) (c .name .given .1) in
-    space (start .pre) (x .moved) (earned function-arg-pays x)
+abbrev at-entry : (c : tie.Start) → Way (named-rule (c .args .kind)) (c .args .script .now) (c .args .tape .now) (c .args .c) 0 (c .args .tape .now) (c .args .c)
+at-entry c = enter (named-pays _) (c .pre)
+
+abbrev at-name : (c : tie.After-name) → On (at-entry (c .before .before .before .before .before)) 1 (c .before .before .before .before .before .args .tape .now) (c .name .given .0 .1 .0)
+unfolding named-rule
+at-name c = earning _ function-arg-pays (at-entry (c .before .before .before .before .before)) refl (known taken (c .before .before .function-argument .ensures) (c .name .given .1))
 
 pub named-spec : {M : Type 1} → statement M
 unfolding named-rule
@@ -24,7 +25,7 @@ named-spec =
     (λ c κs. search needs)
     (λ c. search needs)
     (λ c. search needs)
-    (λ c. let start = c .before .before .before .before .before in met (named-pays _) (start .pre) (bytes-stop _ (known taken (c .before .before .function-argument .ensures) (c .enum-told .given .1))))
-    (λ c κs. room (c .before .before))
+    (λ c. lost-here _ (at-entry (c .before .before .before .before .before)) refl (known taken (c .before .before .function-argument .ensures) (c .enum-told .given .1)))
+    (λ c κs. can-push (at-name (c .before .before)))
     (λ c. search needs)
-    (λ c. let start = c .before .before .before .before .before .before .before .before .before .before in let function-argument = c .before .before .before .before .before .before .before .function-argument in let name = c .before .before .before .before .before .name in met (named-pays _) (start .pre) (bytes-then _ (known taken (function-argument .ensures) (name .given .1)) (added _ _ _ _ _ (c .before .before .push .ensures) (room (c .before .before .before .before .before))))))
+    (λ c. ends-here (at-name (c .before .before .before .before .before)) (added _ _ _ _ _ (c .before .before .push .ensures) (can-push (at-name (c .before .before .before .before .before))))))
