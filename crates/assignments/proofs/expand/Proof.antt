@@ -6,8 +6,8 @@ use Rattle.rules.specs.Assignments as rule
 use Rattle.lex.specs.Contract.{read}
 use Rattle.lex.proofs.Lexes.{known, given}
 use Rattle.tape.specs.Contract.{stepped}
-use Rattle.tape.proofs.Runs.{known-read, runs, added, as-bytes}
-use Rattle.tape.proofs.Way.{On, Further, Short, enter-short, bytes, called, can-push, lost-here, ends-here, halts, not-stepped, as-it-is, where-so, where-not}
+use Rattle.tape.proofs.Runs.{known-read, added, as-bytes}
+use Rattle.tape.proofs.Way.{On, Further, Short, enter-short, bytes, called, can-push, lost-here, ends-here, where-so, where-not, stops-here}
 use borrow.Author.Needs.{needs}
 use Rattle.assignments.proofs.expand.Statement.{statement}
 use Rattle.assignments.proofs.expand.Tie as tie
@@ -43,7 +43,7 @@ expand-spec =
     (λ c κs. (at-skipped (c .before .before)) .room)
     (λ c. search needs)
     (λ c. c .before .before .before .expression .kept .1 .0 ∙ (at-skipped (c .before .before .before .before .before .before)) .size)
-    (λ c. halts _ (at-skipped (c .before .before .before .before .before .before)) refl (not-stepped (c .before .before .before .expression .result) (c .match2 .keys2)) (runs (c .before .before .before .expression .ensures)) tt (as-it-is (stepped (c .before .before .before .expression .result))))
+    (λ c. stops-here _ (at-skipped (c .before .before .before .before .before .before)) refl (c .before .before .before .expression .result) (c .before .before .before .expression .ensures) (c .match2 .keys2))
     (λ c. (at-if1 c) .size)
     (λ c. ends-here (at-if1 c) (as-bytes (given _)))
     (λ c κs. can-push (at-if1-left (c .before)))

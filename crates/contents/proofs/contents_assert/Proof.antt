@@ -7,8 +7,8 @@ use Rattle.rules.proofs.Commands.{contents-assert-pays}
 use Rattle.lex.specs.Contract.{read}
 use Rattle.lex.proofs.Lexes.{known}
 use Rattle.tape.specs.Contract.{stepped}
-use Rattle.tape.proofs.Runs.{known-read, runs, as-bytes, as-lost}
-use Rattle.tape.proofs.Way.{On, Further, Way, enter, bytes, called, lost-here, ends-here, halts, not-stepped, as-it-is}
+use Rattle.tape.proofs.Runs.{known-read, as-bytes, as-lost}
+use Rattle.tape.proofs.Way.{On, Further, Way, enter, bytes, called, lost-here, ends-here, stops-here}
 use borrow.Author.Needs.{needs}
 use Rattle.contents.proofs.contents_assert.Statement.{statement}
 use Rattle.contents.proofs.contents_assert.Tie as tie
@@ -37,7 +37,7 @@ contents-assert-spec =
     (λ c κs. (at-named (c .before .before)) .room)
     (λ c. search needs)
     (λ c. c .before .before .before .asserted .kept .1 .0 ∙ (at-named (c .before .before .before .before .before .before)) .size)
-    (λ c. halts _ (at-named (c .before .before .before .before .before .before)) refl (not-stepped (c .before .before .before .asserted .result) (c .match2 .keys2)) (runs (c .before .before .before .asserted .ensures)) tt (as-it-is (stepped (c .before .before .before .asserted .result))))
+    (λ c. stops-here _ (at-named (c .before .before .before .before .before .before)) refl (c .before .before .before .asserted .result) (c .before .before .before .asserted .ensures) (c .match2 .keys2))
     (λ c. search needs)
     (λ c κs. search needs)
     (λ c. search needs)

@@ -6,8 +6,8 @@ use Rattle.rules.proofs.Commands.{keep-pays}
 use Rattle.lex.specs.Contract.{read}
 use Rattle.lex.proofs.Lexes.{known}
 use Rattle.tape.specs.Contract.{stepped}
-use Rattle.tape.proofs.Runs.{known-read, runs, as-bytes, as-lost}
-use Rattle.tape.proofs.Way.{On, Further, Way, enter, bytes, called, lost-here, ends-here, halts, not-stepped, as-it-is}
+use Rattle.tape.proofs.Runs.{known-read, as-bytes, as-lost}
+use Rattle.tape.proofs.Way.{On, Further, Way, enter, bytes, called, lost-here, ends-here, stops-here}
 use borrow.Author.Needs.{needs}
 use Rattle.contents.proofs.keep.Statement.{statement}
 use Rattle.contents.proofs.keep.Tie as tie
@@ -45,7 +45,7 @@ keep-spec =
     (λ c κs. ((at-opened (c .before .before)) .room, omega arith))
     (λ c. search needs)
     (λ c. c .before .before .before .matcher-pattern .kept .1 .0 ∙ (at-opened (c .before .before .before .before .before .before)) .size)
-    (λ c. halts _ (at-opened (c .before .before .before .before .before .before)) refl (not-stepped (c .before .before .before .matcher-pattern .result) (c .match3 .keys2)) (runs (c .before .before .before .matcher-pattern .ensures)) tt (as-it-is (stepped (c .before .before .before .matcher-pattern .result))))
+    (λ c. stops-here _ (at-opened (c .before .before .before .before .before .before)) refl (c .before .before .before .matcher-pattern .result) (c .before .before .before .matcher-pattern .ensures) (c .match3 .keys2))
     (λ c. search needs)
     (λ c κs. search needs)
     (λ c. search needs)

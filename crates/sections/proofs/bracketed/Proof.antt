@@ -10,8 +10,8 @@ use Rattle.rules.proofs.Commands.{bracketed-pays}
 use Rattle.lex.specs.Contract.{read}
 use Rattle.lex.proofs.Lexes.{known}
 use Rattle.tape.specs.Contract.{stepped}
-use Rattle.tape.proofs.Runs.{known-read, runs, added}
-use Rattle.tape.proofs.Way.{On, Further, Way, enter, bytes, earning, called, can-push, lost-here, ends-here, halts, not-stepped, as-it-is}
+use Rattle.tape.proofs.Runs.{known-read, added}
+use Rattle.tape.proofs.Way.{On, Further, Way, enter, bytes, earning, called, can-push, lost-here, ends-here, stops-here}
 use borrow.Author.Needs.{needs}
 use Rattle.sections.proofs.bracketed.Statement.{statement}
 use Rattle.sections.proofs.bracketed.Tie as tie
@@ -44,7 +44,7 @@ bracketed-spec =
     (λ c κs. (at-opened (c .before .before)) .room)
     (λ c. search needs)
     (λ c. c .before .before .before .expression .kept .1 .0 ∙ (at-opened (c .before .before .before .before .before .before)) .size)
-    (λ c. halts _ (at-opened (c .before .before .before .before .before .before)) refl (not-stepped (c .before .before .before .expression .result) (c .match2 .keys2)) (runs (c .before .before .before .expression .ensures)) tt (as-it-is (stepped (c .before .before .before .expression .result))))
+    (λ c. stops-here _ (at-opened (c .before .before .before .before .before .before)) refl (c .before .before .before .expression .result) (c .before .before .before .expression .ensures) (c .match2 .keys2))
     (λ c. search needs)
     (λ c κs. search needs)
     (λ c. search needs)

@@ -6,8 +6,8 @@ use Rattle.rules.specs.Sections as rule
 use Rattle.lex.specs.Contract.{taken}
 use Rattle.lex.proofs.Lexes.{known}
 use Rattle.tape.specs.Contract.{stepped}
-use Rattle.tape.proofs.Runs.{known-read, runs, added}
-use Rattle.tape.proofs.Way.{On, Further, Short, enter-short, bytes, called, can-push, lost-here, ends-here, halts, not-stepped, as-it-is, where-so, where-not}
+use Rattle.tape.proofs.Runs.{known-read, added}
+use Rattle.tape.proofs.Way.{On, Further, Short, enter-short, bytes, called, can-push, lost-here, ends-here, where-so, where-not, stops-here}
 use borrow.Author.Needs.{needs}
 use Rattle.sections.proofs.ending.Statement.{statement}
 use Rattle.sections.proofs.ending.Tie as tie
@@ -39,7 +39,7 @@ ending-spec =
     (λ c κs. (at-if1 (c .before)) .room)
     (λ c. search needs)
     (λ c. c .before .before .before .expression .kept .1 .0 ∙ (at-if1 (c .before .before .before .before .before)) .size)
-    (λ c. halts _ (at-if1 (c .before .before .before .before .before)) refl (not-stepped (c .before .before .before .expression .result) (c .match .keys2)) (runs (c .before .before .before .expression .ensures)) tt (as-it-is (stepped (c .before .before .before .expression .result))))
+    (λ c. stops-here _ (at-if1 (c .before .before .before .before .before)) refl (c .before .before .before .expression .result) (c .before .before .before .expression .ensures) (c .match .keys2))
     (λ c κs. can-push (at-value (c .before .before)))
     (λ c. c .before .before .push .kept .0 ∙ (at-value (c .before .before .before .before .before)) .size)
     (λ c. ends-here (at-value (c .before .before .before .before .before)) (added _ _ _ _ _ (c .before .before .push .ensures) (can-push (at-value (c .before .before .before .before .before)))))

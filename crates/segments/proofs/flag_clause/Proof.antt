@@ -6,8 +6,8 @@ use Rattle.rules.specs.Commands as rule
 use Rattle.lex.specs.Contract.{read}
 use Rattle.lex.proofs.Lexes.{known, given}
 use Rattle.tape.specs.Contract.{stepped}
-use Rattle.tape.proofs.Runs.{known-read, runs, added, as-bytes}
-use Rattle.tape.proofs.Way.{On, Further, Short, enter-short, bytes, called, can-push, lost-here, ends-here, halts, not-stepped, as-it-is, where-so, where-not}
+use Rattle.tape.proofs.Runs.{known-read, added, as-bytes}
+use Rattle.tape.proofs.Way.{On, Further, Short, enter-short, bytes, called, can-push, lost-here, ends-here, where-so, where-not, stops-here}
 use borrow.Author.Needs.{needs}
 use Rattle.segments.proofs.flag_clause.Statement.{statement}
 use Rattle.segments.proofs.flag_clause.Tie as tie
@@ -49,7 +49,7 @@ flag-clause-spec =
     (λ c κs. (at-opened (c .before .before)) .room)
     (λ c. search needs)
     (λ c. c .before .before .before .expression .kept .1 .0 ∙ (at-opened (c .before .before .before .before .before .before)) .size)
-    (λ c. halts _ (at-opened (c .before .before .before .before .before .before)) refl (not-stepped (c .before .before .before .expression .result) (c .match2 .keys2)) (runs (c .before .before .before .expression .ensures)) tt (as-it-is (stepped (c .before .before .before .expression .result))))
+    (λ c. stops-here _ (at-opened (c .before .before .before .before .before .before)) refl (c .before .before .before .expression .result) (c .before .before .before .expression .ensures) (c .match2 .keys2))
     (λ c. search needs)
     (λ c κs. search needs)
     (λ c. search needs)

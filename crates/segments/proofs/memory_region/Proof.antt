@@ -8,8 +8,8 @@ use Rattle.rules.proofs.Commands.{memory-region-pays}
 use Rattle.lex.specs.Contract.{read, taken}
 use Rattle.lex.proofs.Lexes.{known}
 use Rattle.tape.specs.Contract.{stepped}
-use Rattle.tape.proofs.Runs.{known-read, runs, added}
-use Rattle.tape.proofs.Way.{On, Further, Way, enter, bytes, earning, called, can-push, lost-here, ends-here, halts, not-stepped, as-it-is}
+use Rattle.tape.proofs.Runs.{known-read, added}
+use Rattle.tape.proofs.Way.{On, Further, Way, enter, bytes, earning, called, can-push, lost-here, ends-here, stops-here}
 use borrow.Author.Needs.{needs}
 use Rattle.segments.proofs.memory_region.Statement.{statement}
 use Rattle.segments.proofs.memory_region.Tie as tie
@@ -57,7 +57,7 @@ memory-region-spec =
     (λ c κs. (at-colon (c .before .before .before .before .before)) .room)
     (λ c. search needs)
     (λ c. c .before .before .before .bound .kept .1 .0 ∙ (at-colon (c .before .before .before .before .before .before .before .before .before)) .size)
-    (λ c. halts _ (at-colon (c .before .before .before .before .before .before .before .before .before)) refl (not-stepped (c .before .before .before .bound .result) (c .match3 .keys2)) (runs (c .before .before .before .bound .ensures)) tt (as-it-is (stepped (c .before .before .before .bound .result))))
+    (λ c. stops-here _ (at-colon (c .before .before .before .before .before .before .before .before .before)) refl (c .before .before .before .bound .result) (c .before .before .before .bound .ensures) (c .match3 .keys2))
     (λ c. search needs)
     (λ c κs. search needs)
     (λ c. search needs)
@@ -70,7 +70,7 @@ memory-region-spec =
     (λ c κs. (at-comma (c .before .before .before .before .before)) .room)
     (λ c. search needs)
     (λ c. c .before .before .before .bound2 .kept .1 .0 ∙ (at-comma (c .before .before .before .before .before .before .before .before .before)) .size)
-    (λ c. halts _ (at-comma (c .before .before .before .before .before .before .before .before .before)) refl (not-stepped (c .before .before .before .bound2 .result) (c .match5 .keys2)) (runs (c .before .before .before .bound2 .ensures)) tt (as-it-is (stepped (c .before .before .before .bound2 .result))))
+    (λ c. stops-here _ (at-comma (c .before .before .before .before .before .before .before .before .before)) refl (c .before .before .before .bound2 .result) (c .before .before .before .bound2 .ensures) (c .match5 .keys2))
     (λ c κs. can-push (at-length (c .before .before)))
     (λ c. c .before .before .push .kept .0 ∙ (at-length (c .before .before .before .before .before)) .size)
     (λ c. ends-here (at-length (c .before .before .before .before .before)) (added _ _ _ _ _ (c .before .before .push .ensures) (can-push (at-length (c .before .before .before .before .before))))))

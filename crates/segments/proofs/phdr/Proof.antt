@@ -9,7 +9,7 @@ use Rattle.lex.specs.Contract.{read, taken}
 use Rattle.lex.proofs.Lexes.{known}
 use Rattle.tape.specs.Contract.{stepped}
 use Rattle.tape.proofs.Runs.{known-read, runs, added}
-use Rattle.tape.proofs.Way.{On, Further, Way, enter, bytes, earning, called, can-push, lost-here, ends-here, halts, not-stepped, as-it-is}
+use Rattle.tape.proofs.Way.{On, Further, Way, enter, bytes, earning, called, can-push, lost-here, ends-here, halts, stops-here}
 use Rattle.segments.specs.Answers.{worded}
 use Rattle.segments.proofs.Unread.{not-worded}
 use Rattle.rules.specs.Rule.{add}
@@ -65,7 +65,7 @@ phdr-spec =
     (λ c κs. (at-before2 (c .before .before)) .room)
     (λ c. search needs)
     (λ c. c .before .before .before .segment-kind .kept .1 .0 ∙ (at-before2 (c .before .before .before .before .before .before)) .size)
-    (λ c. halts _ (at-before2 (c .before .before .before .before .before .before)) refl (not-stepped (c .before .before .before .segment-kind .result) (c .match3 .keys2)) (runs (c .before .before .before .segment-kind .ensures)) tt (as-it-is (stepped (c .before .before .before .segment-kind .result))))
+    (λ c. stops-here _ (at-before2 (c .before .before .before .before .before .before)) refl (c .before .before .before .segment-kind .result) (c .before .before .before .segment-kind .ensures) (c .match3 .keys2))
     (λ c κs. search needs)
     (λ c. search needs)
     (λ c. search needs)
