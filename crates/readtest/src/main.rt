@@ -87,20 +87,6 @@ fn checksum(words: &[u64]) -> u64 {
     sum
 }
 
-// Five words a line.
-fn print_words(words: &[u64]) {
-    let mut i = 0;
-    while i < words.len() {
-        io::print_decimal(STDOUT_FILENO, words[i]);
-        if i % 5 == 4 {
-            print(b"\n");
-        } else {
-            print(b" ");
-        }
-        i += 1;
-    }
-}
-
 // The first words of a tape that has as many, or none.
 fn first_words(tape: &[u64], n: usize) -> &[u64] {
     if n <= tape.len() {
@@ -116,13 +102,12 @@ fn print_records(tape: &[u64], count: usize) {
         print(b"more records than room\n");
         return;
     }
-    let words = first_words(tape, 5 * count);
     if count <= SHOWN {
-        print_words(words);
+        lister::print_records(tape, count);
         return;
     }
     print(b"sum");
-    print_number(checksum(words));
+    print_number(checksum(first_words(tape, 5 * count)));
     print(b"\n");
 }
 

@@ -46,3 +46,7 @@ sheet =
     ∷ not-read 0 "x = 18446744073709551616" 0
     ∷ not-read 0 "x = 1 /*c*/" 0
     ∷ []
+
+-- 01's example of the listing program
+abbrev pub example : Line
+example = reads 0 "x += 1K;\n" 4 1 (2 ∷ 0 ∷ 1 ∷ 0 ∷ 0 ∷ 1 ∷ 1024 ∷ 0 ∷ 0 ∷ 0 ∷ 4 ∷ 0 ∷ 0 ∷ 0 ∷ 0 ∷ 47 ∷ 0 ∷ 1 ∷ 0 ∷ 0 ∷ [])
