@@ -44,6 +44,10 @@ abbrev at-one : (c : tie.After-one Inv-loop μ-loop) → On (at-enum-told (c .be
 unfolding repeat-till repeating if_then_else_
 at-one c = called _ (at-enum-told (c .before .before .before .before .before .before)) refl (known-read stepped (c .before .before .before .before .item .ensures) (c .one .given .1)) (c .before .before .before .before .item .kept .1 .0)
 
+-- the turn that a point behind its call is in
+abbrev turn-of : (c : tie.After-known-told2 Inv-loop μ-loop) → tie.In-loop Inv-loop μ-loop
+turn-of c = c .before .before .before .before .before .before .before .before .before .before .before
+
 pub items-spec : {M : Type 1} → statement M
 unfolding repeat-till repeating if_then_else_
 items-spec =
@@ -64,9 +68,9 @@ items-spec =
     (λ c κs. search needs)
     (λ c. c .before .before .before .before .item .kept .1 .0 ∙ (at-enum-told (c .before .before .before .before .before .before)) .size)
     (λ c. halts _ (at-enum-told (c .before .before .before .before .before .before)) refl (not-stepped (c .before .before .before .before .item .result) (c .before .match2 .keys2)) (runs (c .before .before .before .before .item .ensures)) _ (c .counted .ensures))
-    (λ c. record { fits = omega (arith, c .before .before .before .before .before .before .before .before .before .before .before .before .loop .inv .1, (c .before .before .before .before .before .before .before .before .before .before .before .before .loop .inv .0 .way) .room .short, c .before .before .before .before .before .before .before .before .before .before .before .loop-test .taken) })
-    (λ c. omega (arith, c .before .before .before .before .before .before .before .before .before .before .before .loop-test .taken))
-    (λ c. omega (arith, c .before .before .before .before .before .before .before .before .before .before .before .loop-test .taken))
-    (λ c. (record { way = (at-one (c .before)); left = ap (λ n. repeating (rule.item (expression (c .before .before .before .before .before .before .before .before .before .before .before .before .before .before .before .args .mode) (c .before .before .before .before .before .before .before .before .before .before .before .before .before .before .before .args .left)) (c .before .before .before .before .before .before .before .before .before .before .before .before .before .before .before .args .which)) (word "}") (c .before .before .before .before .before .before .before .before .before .before .before .before .loop .turns - 1) n) (sym (add-one (c .before .before .before .before .before .before .before .before .before .before .before .before .loop .k))) }, omega (arith, c .before .before .before .before .before .before .before .before .before .before .before .before .loop .inv .1, c .before .before .before .before .before .before .before .before .before .before .before .loop-test .taken)))
+    (λ c. record { fits = omega (arith, (turn-of c) .before .loop .inv .1, ((turn-of c) .before .loop .inv .0 .way) .room .short, (turn-of c) .loop-test .taken) })
+    (λ c. omega (arith, (turn-of c) .loop-test .taken))
+    (λ c. omega (arith, (turn-of c) .loop-test .taken))
+    (λ c. (record { way = (at-one (c .before)); left = ap (λ n. repeating (rule.item (expression ((turn-of c) .before .before .before .before .args .mode) ((turn-of c) .before .before .before .before .args .left)) ((turn-of c) .before .before .before .before .args .which)) (word "}") ((turn-of c) .before .loop .turns - 1) n) (sym (add-one ((turn-of c) .before .loop .k))) }, omega (arith, (turn-of c) .before .loop .inv .1, (turn-of c) .loop-test .taken)))
     (λ c. (c .before .loop .inv .0 .way) .size)
     (λ c. spent (c .before .loop .inv .0 .way) (λ n. repeating (rule.item (expression (c .before .before .before .before .args .mode) (c .before .before .before .before .args .left)) (c .before .before .before .before .args .which)) (word "}") n (c .before .loop .k)) (c .before .loop .inv .0 .left) (c .loop-test .left) (as-lost refused)))

@@ -42,6 +42,10 @@ abbrev at-item : (c : tie.After-item Inv-loop μ-loop) → On (at-enum-told (c .
 unfolding repeat-till repeating if_then_else_
 at-item c = called _ (at-enum-told (c .before .before .before .before .before .before)) refl (known-read stepped (c .before .before .before .before .pattern .ensures) (c .item .given .1)) (c .before .before .before .before .pattern .kept .1 .0)
 
+-- the turn that a point behind its call is in
+abbrev turn-of : (c : tie.After-known-told2 Inv-loop μ-loop) → tie.In-loop Inv-loop μ-loop
+turn-of c = c .before .before .before .before .before .before .before .before .before .before .before
+
 pub patterns-spec : {M : Type 1} → statement M
 unfolding repeat-till repeating if_then_else_
 patterns-spec =
@@ -63,8 +67,8 @@ patterns-spec =
     (λ c. c .before .before .before .before .pattern .kept .1 .0 ∙ (at-enum-told (c .before .before .before .before .before .before)) .size)
     (λ c. halts _ (at-enum-told (c .before .before .before .before .before .before)) refl (not-stepped (c .before .before .before .before .pattern .result) (c .before .match2 .keys2)) (runs (c .before .before .before .before .pattern .ensures)) _ (c .counted .ensures))
     (λ c. search needs)
-    (λ c. omega (arith, c .before .before .before .before .before .before .before .before .before .before .before .loop-test .taken))
-    (λ c. omega (arith, c .before .before .before .before .before .before .before .before .before .before .before .loop-test .taken))
-    (λ c. (record { way = (at-item (c .before)); left = ap (λ n. repeating rule.pattern (word ")") (c .before .before .before .before .before .before .before .before .before .before .before .before .loop .turns - 1) n) (sym (add-one (c .before .before .before .before .before .before .before .before .before .before .before .before .loop .k))) }, omega (arith, c .before .before .before .before .before .before .before .before .before .before .before .before .loop .inv .1, c .before .before .before .before .before .before .before .before .before .before .before .loop-test .taken)))
+    (λ c. omega (arith, (turn-of c) .loop-test .taken))
+    (λ c. omega (arith, (turn-of c) .loop-test .taken))
+    (λ c. (record { way = (at-item (c .before)); left = ap (λ n. repeating rule.pattern (word ")") ((turn-of c) .before .loop .turns - 1) n) (sym (add-one ((turn-of c) .before .loop .k))) }, omega (arith, (turn-of c) .before .loop .inv .1, (turn-of c) .loop-test .taken)))
     (λ c. (c .before .loop .inv .0 .way) .size)
     (λ c. spent (c .before .loop .inv .0 .way) (λ n. repeating rule.pattern (word ")") n (c .before .loop .k)) (c .before .loop .inv .0 .left) (c .loop-test .left) (as-lost refused)))

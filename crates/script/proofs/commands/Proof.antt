@@ -16,6 +16,10 @@ Inv-loop script tape₀ mode at₀ so-far₀ turns₀ tape at so-far turns = Who
 abbrev μ-loop : tie.MeasureT-loop
 μ-loop script tape₀ mode at₀ so-far₀ turns₀ tape at so-far turns = turns
 
+-- the turn that a point behind its call is in
+abbrev turn-of : (c : tie.After-noted-arg Inv-loop μ-loop) → tie.In-loop Inv-loop μ-loop
+turn-of c = c .before .before .before .before .before .before .before .before .before .before
+
 pub commands-spec : {M : Type 1} → statement M
 commands-spec =
     tie.close
@@ -38,9 +42,9 @@ commands-spec =
     (λ c. search needs)
     (λ c. c .before .before .before .before .command .kept .1 .0 ∙ (c .before .before .before .before .before .before .before .before .before .loop .inv .loop .way) .size)
     (λ c. sunk-here _ _ _ (c .before .before .before .before .before .before .before .before .before .loop .inv) (c .before .before .before .before .before .before .before .before .loop-test .taken) (c .before .before .before .before .before .before .if1 .left) (known-read stepped (c .before .before .before .before .command .ensures) (c .enum-told3 .given .1)))
-    (λ c κs. (fits _ _ _ (c .before .before .before .before .before .before .before .before .before .before .before .loop .inv) (known-read stepped (c .before .before .before .before .before .before .command .ensures) (c .before .before .one .given .1)) (c .before .before .before .before .before .before .command .kept .1 .0), omega (arith, c .before .before .before .before .before .before .before .before .before .before .before .loop .inv .few, c .before .before .before .before .before .before .before .before .before .before .before .loop .inv .loop .way .room .short, c .before .before .before .before .before .before .before .before .before .before .loop-test .taken)))
-    (λ c. omega (arith, c .before .before .before .before .before .before .before .before .before .before .before .loop-test .taken))
-    (λ c. omega (arith, c .before .before .before .before .before .before .before .before .before .before .before .loop-test .taken))
-    (λ c. on _ _ _ (c .before .before .before .before .before .before .before .before .before .before .before .before .loop .inv) (c .before .before .before .before .before .before .before .before .before .before .before .loop-test .taken) (c .before .before .before .before .before .before .before .before .before .if1 .left) (known-read stepped (c .before .before .before .before .before .before .before .command .ensures) (c .before .before .before .one .given .1)) (c .before .before .before .before .before .before .before .command .kept .1 .0) _ (c .noted .ensures))
+    (λ c κs. (fits _ _ _ ((turn-of c) .before .loop .inv) (known-read stepped (c .before .before .before .before .before .before .command .ensures) (c .before .before .one .given .1)) (c .before .before .before .before .before .before .command .kept .1 .0), omega (arith, (turn-of c) .before .loop .inv .few, (turn-of c) .before .loop .inv .loop .way .room .short, (turn-of c) .loop-test .taken)))
+    (λ c. omega (arith, (turn-of (c .before)) .loop-test .taken))
+    (λ c. omega (arith, (turn-of (c .before)) .loop-test .taken))
+    (λ c. on _ _ _ ((turn-of (c .before)) .before .loop .inv) ((turn-of (c .before)) .loop-test .taken) (c .before .before .before .before .before .before .before .before .before .if1 .left) (known-read stepped (c .before .before .before .before .before .before .before .command .ensures) (c .before .before .before .one .given .1)) (c .before .before .before .before .before .before .before .command .kept .1 .0) _ (c .noted .ensures))
     (λ c. (c .before .loop .inv .loop .way) .size)
     (λ c. spent-here _ _ _ (c .before .loop .inv) (c .loop-test .left)))

@@ -45,6 +45,10 @@ abbrev at-item : (c : tie.After-item Inv-loop μ-loop) → On (at-if1-left (c .b
 unfolding rule.clauses rule.clauses-from
 at-item c = called _ (at-if1-left (c .before .before .before .before .before .before)) refl (known-read stepped (c .before .before .before .before .clause .ensures) (c .item .given .1)) (c .before .before .before .before .clause .kept .1 .0)
 
+-- the turn that a point behind its call is in
+abbrev turn-of : (c : tie.After-known-told Inv-loop μ-loop) → tie.In-loop Inv-loop μ-loop
+turn-of c = c .before .before .before .before .before .before .before .before .before .before
+
 pub clauses-spec : {M : Type 1} → statement M
 unfolding rule.clauses rule.clauses-from
 clauses-spec =
@@ -63,9 +67,9 @@ clauses-spec =
     (λ c κs. search needs)
     (λ c. c .before .before .before .before .clause .kept .1 .0 ∙ (at-if1-left (c .before .before .before .before .before .before)) .size)
     (λ c. halts _ (at-if1-left (c .before .before .before .before .before .before)) refl (not-stepped (c .before .before .before .before .clause .result) (c .before .match .keys2)) (runs (c .before .before .before .before .clause .ensures)) _ (c .counted .ensures))
-    (λ c. record { fits = omega (arith, c .before .before .before .before .before .before .before .before .before .before .before .loop .inv .1, (c .before .before .before .before .before .before .before .before .before .before .before .loop .inv .0 .way) .room .short, c .before .before .before .before .before .before .before .before .before .before .loop-test .taken) })
-    (λ c. omega (arith, c .before .before .before .before .before .before .before .before .before .before .loop-test .taken))
-    (λ c. omega (arith, c .before .before .before .before .before .before .before .before .before .before .loop-test .taken))
-    (λ c. (record { way = (at-item (c .before)); left = ap (λ n. rule.clauses-from (expression (c .before .before .before .before .before .before .before .before .before .before .before .before .before .before .args .mode) (c .before .before .before .before .before .before .before .before .before .before .before .before .before .before .args .left)) (c .before .before .before .before .before .before .before .before .before .before .before .loop .turns - 1) n) (sym (add-one (c .before .before .before .before .before .before .before .before .before .before .before .loop .k))) }, omega (arith, c .before .before .before .before .before .before .before .before .before .before .before .loop .inv .1, c .before .before .before .before .before .before .before .before .before .before .loop-test .taken)))
+    (λ c. record { fits = omega (arith, (turn-of c) .before .loop .inv .1, ((turn-of c) .before .loop .inv .0 .way) .room .short, (turn-of c) .loop-test .taken) })
+    (λ c. omega (arith, (turn-of c) .loop-test .taken))
+    (λ c. omega (arith, (turn-of c) .loop-test .taken))
+    (λ c. (record { way = (at-item (c .before)); left = ap (λ n. rule.clauses-from (expression ((turn-of c) .before .before .before .before .args .mode) ((turn-of c) .before .before .before .before .args .left)) ((turn-of c) .before .loop .turns - 1) n) (sym (add-one ((turn-of c) .before .loop .k))) }, omega (arith, (turn-of c) .before .loop .inv .1, (turn-of c) .loop-test .taken)))
     (λ c. (c .before .loop .inv .0 .way) .size)
     (λ c. spent (c .before .loop .inv .0 .way) (λ n. rule.clauses-from (expression (c .before .before .before .before .args .mode) (c .before .before .before .before .args .left)) n (c .before .loop .k)) (c .before .loop .inv .0 .left) (c .loop-test .left) (as-lost refused)))

@@ -53,9 +53,13 @@ abbrev at-enum-told : (c : tie.After-enum-told Inv-loop μ-loop) → Further (at
 unfolding repeat-till repeating if_then_else_
 at-enum-told c = bytes _ (at-turn (c .before .before .before .before)) refl (opt-none (known read (c .before .before .word .ensures) (c .enum-told .given .1)))
 
+-- the turn that a point behind its call is in
+abbrev turn-of : (c : tie.After-item Inv-loop μ-loop) → tie.In-loop Inv-loop μ-loop
+turn-of c = c .before .before .before .before .before .before .before .before .before .before
+
 abbrev at-item : (c : tie.After-item Inv-loop μ-loop) → On (at-enum-told (c .before .before .before .before .before .before)) 0 (c .before .before .before .before .contents-item .last .1 .0) (c .item .given .0 .1 .0)
 unfolding repeat-till repeating if_then_else_
-at-item c = called _ (at-enum-told (c .before .before .before .before .before .before)) refl (item-reads (expression-blind _ _) _ _ (c .before .before .before .before .before .before .before .before .before .before .before .loop .inv .2) _ (known-read counted (c .before .before .before .before .contents-item .ensures) (c .item .given .1))) (c .before .before .before .before .contents-item .kept .1 .0)
+at-item c = called _ (at-enum-told (c .before .before .before .before .before .before)) refl (item-reads (expression-blind _ _) _ _ ((turn-of c) .before .loop .inv .2) _ (known-read counted (c .before .before .before .before .contents-item .ensures) (c .item .given .1))) (c .before .before .before .before .contents-item .kept .1 .0)
 
 pub contents-spec : {M : Type 1} → statement M
 unfolding repeat-till repeating if_then_else_
@@ -76,9 +80,9 @@ contents-spec =
     (λ c. search needs)
     (λ c. c .before .before .before .contents-item .kept .1 .0 ∙ (at-enum-told (c .before .before .before .before .before)) .size)
     (λ c. let item = c .before .before .before .contents-item in halts _ (at-enum-told (c .before .before .before .before .before)) refl (unread-too (counted (item .result)) (not-counted (item .result) (c .match2 .keys2))) (runs (item-reads (expression-blind _ _) _ _ (c .before .before .before .before .before .before .before .before .before .before .loop .inv .2) _ (item .ensures))) 0 (as-before (counted (item .result)) (not-counted (item .result) (c .match2 .keys2))))
-    (λ c. record { fits = omega (arith, c .before .before .before .before .before .before .before .before .before .before .before .before .loop .inv .1, (c .before .before .before .before .before .before .before .before .before .before .before .before .loop .inv .0 .way) .room .short, c .before .before .before .before .before .before .before .before .before .before .before .loop-test .taken) })
-    (λ c. omega (arith, c .before .before .before .before .before .before .before .before .before .before .before .loop-test .taken))
-    (λ c. omega (arith, c .before .before .before .before .before .before .before .before .before .before .before .loop-test .taken))
-    (λ c. (record { way = (at-item (c .before)); left = ap (λ n. repeating (contents-command (expression (c .before .before .before .before .before .before .before .before .before .before .before .before .before .before .before .args .mode) (c .before .before .before .before .before .before .before .before .before .before .before .before .before .before .before .args .left))) (word "}") (c .before .before .before .before .before .before .before .before .before .before .before .before .loop .turns - 1) n) (sym (add-one (c .before .before .before .before .before .before .before .before .before .before .before .before .loop .k))) }, omega (arith, c .before .before .before .before .before .before .before .before .before .before .before .before .loop .inv .1, c .before .before .before .before .before .before .before .before .before .before .before .loop-test .taken), still-alone (expression-blind _ _) _ _ (c .before .before .before .before .before .before .before .before .before .before .before .before .loop .inv .2) (known-read counted (c .before .before .before .before .before .contents-item .ensures) (c .before .item .given .1))))
+    (λ c. record { fits = omega (arith, (turn-of (c .before)) .before .loop .inv .1, ((turn-of (c .before)) .before .loop .inv .0 .way) .room .short, (turn-of (c .before)) .loop-test .taken) })
+    (λ c. omega (arith, (turn-of (c .before)) .loop-test .taken))
+    (λ c. omega (arith, (turn-of (c .before)) .loop-test .taken))
+    (λ c. (record { way = (at-item (c .before)); left = ap (λ n. repeating (contents-command (expression ((turn-of (c .before)) .before .before .before .before .args .mode) ((turn-of (c .before)) .before .before .before .before .args .left))) (word "}") ((turn-of (c .before)) .before .loop .turns - 1) n) (sym (add-one ((turn-of (c .before)) .before .loop .k))) }, omega (arith, (turn-of (c .before)) .before .loop .inv .1, (turn-of (c .before)) .loop-test .taken), still-alone (expression-blind _ _) _ _ ((turn-of (c .before)) .before .loop .inv .2) (known-read counted (c .before .before .before .before .before .contents-item .ensures) (c .before .item .given .1))))
     (λ c. (c .before .loop .inv .0 .way) .size)
     (λ c. spent (c .before .loop .inv .0 .way) (λ n. repeating (contents-command (expression (c .before .before .before .before .args .mode) (c .before .before .before .before .args .left))) (word "}") n (c .before .loop .k)) (c .before .loop .inv .0 .left) (c .loop-test .left) (as-lost refused)))

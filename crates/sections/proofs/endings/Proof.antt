@@ -52,6 +52,10 @@ abbrev at-behind : (c : tie.After-behind Inv-loop μ-loop) → Further (at-item 
 unfolding rule.endings rule.endings-from rule.ending-sign perhaps
 at-behind c = bytes _ (at-item (c .before .before .before .before)) refl (known read (c .before .before .skip2 .ensures) (c .behind .given .1))
 
+-- the turn that a point behind its call is in
+abbrev turn-of : (c : tie.After-known-told4 Inv-loop μ-loop) → tie.In-loop Inv-loop μ-loop
+turn-of c = c .before .before .before .before .before .before .before .before .before .before .before .before .before .before .before .before .before .before .before .before .before .before
+
 pub endings-spec : {M : Type 1} → statement M
 unfolding rule.endings rule.endings-from rule.ending-sign perhaps
 endings-spec =
@@ -84,9 +88,9 @@ endings-spec =
     (λ c. search needs)
     (λ c. (at-item (c .before .before .before .before)) .size)
     (λ c. lost-here _ (at-item (c .before .before .before .before)) refl (known read (c .before .before .skip2 .ensures) (c .enum-told3 .given .1)))
-    (λ c. record { fits = omega (arith, c .before .before .before .before .before .before .before .before .before .before .before .before .before .before .before .before .before .before .before .before .before .before .before .loop .inv .1, (c .before .before .before .before .before .before .before .before .before .before .before .before .before .before .before .before .before .before .before .before .before .before .before .loop .inv .0 .way) .room .short, c .before .before .before .before .before .before .before .before .before .before .before .before .before .before .before .before .before .before .before .before .before .before .loop-test .taken) })
-    (λ c. omega (arith, c .before .before .before .before .before .before .before .before .before .before .before .before .before .before .before .before .before .before .before .before .before .before .loop-test .taken))
-    (λ c. omega (arith, c .before .before .before .before .before .before .before .before .before .before .before .before .before .before .before .before .before .before .before .before .before .before .loop-test .taken))
-    (λ c. (record { way = (at-behind (c .before)); left = ap (λ n. rule.endings-from (expression (c .before .before .before .before .before .before .before .before .before .before .before .before .before .before .before .before .before .before .before .before .before .before .before .before .before .before .args .mode) (c .before .before .before .before .before .before .before .before .before .before .before .before .before .before .before .before .before .before .before .before .before .before .before .before .before .before .args .left)) (c .before .before .before .before .before .before .before .before .before .before .before .before .before .before .before .before .before .before .before .before .before .before .before .loop .turns - 1) n) (sym (add-one (c .before .before .before .before .before .before .before .before .before .before .before .before .before .before .before .before .before .before .before .before .before .before .before .loop .k))) }, omega (arith, c .before .before .before .before .before .before .before .before .before .before .before .before .before .before .before .before .before .before .before .before .before .before .before .loop .inv .1, c .before .before .before .before .before .before .before .before .before .before .before .before .before .before .before .before .before .before .before .before .before .before .loop-test .taken)))
+    (λ c. record { fits = omega (arith, (turn-of c) .before .loop .inv .1, ((turn-of c) .before .loop .inv .0 .way) .room .short, (turn-of c) .loop-test .taken) })
+    (λ c. omega (arith, (turn-of c) .loop-test .taken))
+    (λ c. omega (arith, (turn-of c) .loop-test .taken))
+    (λ c. (record { way = (at-behind (c .before)); left = ap (λ n. rule.endings-from (expression ((turn-of c) .before .before .before .before .args .mode) ((turn-of c) .before .before .before .before .args .left)) ((turn-of c) .before .loop .turns - 1) n) (sym (add-one ((turn-of c) .before .loop .k))) }, omega (arith, (turn-of c) .before .loop .inv .1, (turn-of c) .loop-test .taken)))
     (λ c. (c .before .loop .inv .0 .way) .size)
     (λ c. spent (c .before .loop .inv .0 .way) (λ n. rule.endings-from (expression (c .before .before .before .before .args .mode) (c .before .before .before .before .args .left)) n (c .before .loop .k)) (c .before .loop .inv .0 .left) (c .loop-test .left) (as-lost refused)))

@@ -42,9 +42,13 @@ abbrev at-if1-left : (c : tie.Else1 Inv-loop μ-loop) → Further (at-starts (c 
 unfolding rule.heading rule.heading-from
 at-if1-left c = where-not (at-starts (c .before)) _ _ refl (c .if1 .left)
 
+-- the turn that a point behind its call is in
+abbrev turn-of : (c : tie.After-part Inv-loop μ-loop) → tie.In-loop Inv-loop μ-loop
+turn-of c = c .before .before .before .before .before .before .before .before .before
+
 abbrev at-part : (c : tie.After-part Inv-loop μ-loop) → On (at-if1-left (c .before .before .before .before .before .before)) 0 (c .before .before .before .before .heading-part .last .1 .0) (c .part .given .0 .1 .0)
 unfolding rule.heading rule.heading-from
-at-part c = lowered _ (λ i. heading-part-pays (expression-pays _ _) (c .before .before .before .before .before .before .before .before .before .before .before .before .before .args .c .count) (c .before .before .before .before .before .before .before .before .before .before .loop .so-far) i) (at-if1-left (c .before .before .before .before .before .before)) refl (known-run headed (c .before .before .before .before .heading-part .ensures) (c .part .given .1)) (c .before .before .before .before .heading-part .kept .1 .0)
+at-part c = lowered _ (λ i. heading-part-pays (expression-pays _ _) ((turn-of c) .before .before .before .before .args .c .count) ((turn-of c) .before .loop .so-far) i) (at-if1-left (c .before .before .before .before .before .before)) refl (known-run headed (c .before .before .before .before .heading-part .ensures) (c .part .given .1)) (c .before .before .before .before .heading-part .kept .1 .0)
 
 pub heading-spec : {M : Type 1} → statement M
 unfolding rule.heading rule.heading-from
@@ -63,8 +67,8 @@ heading-spec =
     (λ c. search needs)
     (λ c. c .before .before .before .heading-part .kept .1 .0 ∙ (at-if1-left (c .before .before .before .before .before)) .size)
     (λ c. halts-low _ (at-if1-left (c .before .before .before .before .before)) refl (not-headed (c .before .before .before .heading-part .result) (c .match .keys2)) (c .before .before .before .heading-part .ensures) (c .before .before .before .before .before .before .before .before .before .loop .so-far) (as-was (headed (c .before .before .before .heading-part .result)) (c .before .before .before .before .before .before .before .before .before .loop .so-far) (not-headed (c .before .before .before .heading-part .result) (c .match .keys2))))
-    (λ c. omega (arith, c .before .before .before .before .before .before .before .before .before .before .loop-test .taken))
-    (λ c. omega (arith, c .before .before .before .before .before .before .before .before .before .before .loop-test .taken))
+    (λ c. omega (arith, (turn-of (c .before)) .loop-test .taken))
+    (λ c. omega (arith, (turn-of (c .before)) .loop-test .taken))
     (λ c. record { way = (at-part (c .before)); left = refl })
     (λ c. (c .before .loop .inv .way) .size)
     (λ c. spent (c .before .loop .inv .way) (λ n. rule.heading-from (expression (c .before .before .before .before .args .mode) (c .before .before .before .before .args .left)) (c .before .before .before .before .args .c .count) n (c .before .loop .so-far)) (c .before .loop .inv .left) (c .loop-test .left) (as-lost refused)))

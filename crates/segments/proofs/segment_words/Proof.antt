@@ -55,6 +55,10 @@ abbrev at-behind : (c : tie.After-behind Inv-loop μ-loop) → Further (at-flag 
 unfolding rule.segment-words rule.segment-words-from rule.segment-word perhaps
 at-behind c = bytes _ (at-flag (c .before .before .before .before)) refl (known read (c .before .before .skip2 .ensures) (c .behind .given .1))
 
+-- the turn that a point behind its call is in
+abbrev turn-of : (c : tie.After-known-told4 Inv-loop μ-loop) → tie.In-loop Inv-loop μ-loop
+turn-of c = c .before .before .before .before .before .before .before .before .before .before .before .before .before .before .before .before .before .before .before .before .before .before
+
 pub segment-words-spec : {M : Type 1} → statement M
 unfolding rule.segment-words rule.segment-words-from rule.segment-word perhaps
 segment-words-spec =
@@ -87,9 +91,9 @@ segment-words-spec =
     (λ c. search needs)
     (λ c. (at-flag (c .before .before .before .before)) .size)
     (λ c. lost-here _ (at-flag (c .before .before .before .before)) refl (known read (c .before .before .skip2 .ensures) (c .enum-told3 .given .1)))
-    (λ c κs. omega (arith, c .before .before .before .before .before .before .before .before .before .before .before .before .before .before .before .before .before .before .before .before .before .before .before .loop .inv .1, (c .before .before .before .before .before .before .before .before .before .before .before .before .before .before .before .before .before .before .before .before .before .before .before .loop .inv .0 .way) .room .short, c .before .before .before .before .before .before .before .before .before .before .before .before .before .before .before .before .before .before .before .before .before .before .loop-test .taken))
-    (λ c. omega (arith, c .before .before .before .before .before .before .before .before .before .before .before .before .before .before .before .before .before .before .before .before .before .before .before .loop-test .taken))
-    (λ c. omega (arith, c .before .before .before .before .before .before .before .before .before .before .before .before .before .before .before .before .before .before .before .before .before .before .before .loop-test .taken))
-    (λ c. (record { way = (at-behind (c .before .before)); left = ap (λ n. rule.segment-words-from (expression (c .before .before .before .before .before .before .before .before .before .before .before .before .before .before .before .before .before .before .before .before .before .before .before .before .before .before .before .args .mode) (c .before .before .before .before .before .before .before .before .before .before .before .before .before .before .before .before .before .before .before .before .before .before .before .before .before .before .before .args .left)) (c .before .before .before .before .before .before .before .before .before .before .before .before .before .before .before .before .before .before .before .before .before .before .before .before .loop .turns - 1) n) (sym (c .with-word .ensures)) }, flags-less (c .before .before .before .before .before .before .before .before .before .before .before .before .before .before .before .before .before .before .before .before .before .before .before .before .loop .so-far) _ _ (c .with-word .ensures) (c .before .before .before .before .before .before .before .before .before .before .before .before .before .before .before .before .before .before .before .before .before .before .before .before .loop .inv .1) (c .before .before .before .before .before .before .before .before .before .before .before .before .before .before .before .before .before .before .before .before .before .before .before .loop-test .taken)))
+    (λ c κs. omega (arith, (turn-of c) .before .loop .inv .1, ((turn-of c) .before .loop .inv .0 .way) .room .short, (turn-of c) .loop-test .taken))
+    (λ c. omega (arith, (turn-of (c .before)) .loop-test .taken))
+    (λ c. omega (arith, (turn-of (c .before)) .loop-test .taken))
+    (λ c. (record { way = (at-behind (c .before .before)); left = ap (λ n. rule.segment-words-from (expression ((turn-of (c .before)) .before .before .before .before .args .mode) ((turn-of (c .before)) .before .before .before .before .args .left)) ((turn-of (c .before)) .before .loop .turns - 1) n) (sym (c .with-word .ensures)) }, flags-less ((turn-of (c .before)) .before .loop .so-far) _ _ (c .with-word .ensures) ((turn-of (c .before)) .before .loop .inv .1) ((turn-of (c .before)) .loop-test .taken)))
     (λ c. (c .before .loop .inv .0 .way) .size)
     (λ c. spent (c .before .loop .inv .0 .way) (λ n. rule.segment-words-from (expression (c .before .before .before .before .args .mode) (c .before .before .before .before .args .left)) n (c .before .loop .so-far)) (c .before .loop .inv .0 .left) (c .loop-test .left) (as-lost refused)))
