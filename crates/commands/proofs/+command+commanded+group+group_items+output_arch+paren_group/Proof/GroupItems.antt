@@ -51,6 +51,10 @@ module _ (t : ℕ) where
   unfolding repeat-till repeating if_then_else_
   at-one c = called _ (at-enum-told (c .before .before .before .before .before .before)) refl (known-read stepped (c .before .before .before .before .command .ensures) (c .one .given .1)) (c .before .before .before .before .command .kept .1 .0)
 
+  -- the turn that a point behind its call is in
+  abbrev turn-of : (c : lts.After-known-told2 (callees t) (group-items-at t) group-items.Post Inv-loop μ-loop) → lts.In-loop (callees t) (group-items-at t) group-items.Post Inv-loop μ-loop
+  turn-of c = c .before .before .before .before .before .before .before .before .before .before .before
+
   pub loop-holds : lts.Need-loop-holds (callees t) (group-items-at t) group-items.Post Inv-loop μ-loop
   unfolding repeat-till repeating if_then_else_
   loop-holds c = (record { way = bytes _ (at-entry (c .before .before)) refl sized; left = ap (λ n. repeating (rule.command (c .before .before .args .mode) (c .before .before .args .left)) (word ")") n 0) (sym (add-one (length (c .before .before .args .script .now)))) }, omega arith)
@@ -73,17 +77,17 @@ module _ (t : ℕ) where
   returns-2 c = halts _ (at-enum-told (c .before .before .before .before .before .before)) refl (not-stepped (c .before .before .before .before .command .result) (c .before .match2 .keys2)) (runs (c .before .before .before .before .command .ensures)) _ (c .counted .ensures)
 
   pub add-k : lts.Need-add-k (callees t) (group-items-at t) group-items.Post Inv-loop μ-loop
-  add-k c = record { fits = omega (arith, c .before .before .before .before .before .before .before .before .before .before .before .before .loop .inv .1, (c .before .before .before .before .before .before .before .before .before .before .before .before .loop .inv .0 .way) .room .short, c .before .before .before .before .before .before .before .before .before .before .before .loop-test .taken) }
+  add-k c = record { fits = omega (arith, (turn-of c) .before .loop .inv .1, ((turn-of c) .before .loop .inv .0 .way) .room .short, (turn-of c) .loop-test .taken) }
 
   pub sub-turns : lts.Need-sub-turns (callees t) (group-items-at t) group-items.Post Inv-loop μ-loop
-  sub-turns c = omega (arith, c .before .before .before .before .before .before .before .before .before .before .before .loop-test .taken)
+  sub-turns c = omega (arith, (turn-of c) .loop-test .taken)
 
   pub loop-less : lts.Need-loop-less (callees t) (group-items-at t) group-items.Post Inv-loop μ-loop
-  loop-less c = omega (arith, c .before .before .before .before .before .before .before .before .before .before .before .loop-test .taken)
+  loop-less c = omega (arith, (turn-of c) .loop-test .taken)
 
   pub loop-again : lts.Need-loop-again (callees t) (group-items-at t) group-items.Post Inv-loop μ-loop
   unfolding repeat-till repeating if_then_else_
-  loop-again c = (record { way = (at-one (c .before)); left = ap (λ n. repeating (rule.command (c .before .before .before .before .before .before .before .before .before .before .before .before .before .before .before .args .mode) (c .before .before .before .before .before .before .before .before .before .before .before .before .before .before .before .args .left)) (word ")") (c .before .before .before .before .before .before .before .before .before .before .before .before .loop .turns - 1) n) (sym (add-one (c .before .before .before .before .before .before .before .before .before .before .before .before .loop .k))) }, omega (arith, c .before .before .before .before .before .before .before .before .before .before .before .before .loop .inv .1, c .before .before .before .before .before .before .before .before .before .before .before .loop-test .taken))
+  loop-again c = (record { way = (at-one (c .before)); left = ap (λ n. repeating (rule.command ((turn-of c) .before .before .before .before .args .mode) ((turn-of c) .before .before .before .before .args .left)) (word ")") ((turn-of c) .before .loop .turns - 1) n) (sym (add-one ((turn-of c) .before .loop .k))) }, omega (arith, (turn-of c) .before .loop .inv .1, (turn-of c) .loop-test .taken))
 
   pub same-length-3 : lts.Need-same-length-3 (callees t) (group-items-at t) group-items.Post Inv-loop μ-loop
   same-length-3 c = (c .before .loop .inv .0 .way) .size
