@@ -4,10 +4,10 @@ use mathlib.Core.Path.{_≡_, sym, subst}
 use Prim.Native.Nat.{ℕ}
 use mathlib.Core.List.{List}
 use mathlib.Core.Bool.{Bool, true, false}
-use Rattle.rules.specs.Rule.{Rule, _>>=_, if_then_else_}
+use Rattle.rules.specs.Rule.{Rule, _>>=_, if_then_else_, _or-else_}
 use Rattle.lex.specs.Contract.{Went, went, lost, Lexes}
 use Rattle.lex.specs.declared.Cursor.{Cursor}
-use Rattle.lex.proofs.Lexes.{then-on, stop, chosen, passed-over}
+use Rattle.lex.proofs.Lexes.{then-on, stop, chosen, passed-over, first, second}
 
 pub record Trail {A : Type 0} (Goal : Went A → Type 0) (s : List ℕ) (e : Cursor) : Type 0 where
   pub rest : Rule A
@@ -39,3 +39,11 @@ module _ {A : Type 0} {Goal : Went A → Type 0} {s : List ℕ} {e : Cursor} (w 
 
     abbrev pub where-not : b ≡ false → Trail Goal s e
     where-not h = record { rest = n; go = λ {r} y. w .go (subst (λ z. Lexes z s e r) (sym q) (passed-over m h y)) }
+
+  -- a try that did not read here, so that the next one stands; and one that did
+  module _ {m : Rule A} (n : Rule A) (q : w .rest ≡ (m or-else n)) where
+    abbrev pub instead : Lexes m s e lost → Trail Goal s e
+    instead x = record { rest = n; go = λ {r} y. w .go (subst (λ z. Lexes z s e r) (sym q) (second x y)) }
+
+    pub tried : {a : A} {f : Cursor} → Lexes m s e (went a f) → Goal (went a f)
+    tried {a} {f} x = w .go (subst (λ z. Lexes z s e (went a f)) (sym q) (first n x))

@@ -13,15 +13,12 @@ use Rattle.rules.specs.declared.Token.{Token}
 abbrev pub is-blank : ℕ → Bool
 is-blank = among (ascii " \t\r\n")
 
--- a byte of a token that is not quoted; of a quoted one; of a comment that ends with its line
+-- a byte of a token that is not quoted; of a quoted one
 abbrev pub is-plain : ℕ → Bool
 is-plain b = not (among (ascii " (){};,\n\t") b)
 
 abbrev pub is-quoted : ℕ → Bool
 is-quoted b = not (eqb b 34)
-
-abbrev pub is-inline : ℕ → Bool
-is-inline b = not (eqb b 10)
 
 -- is_ascii_digit, is_ascii_hexdigit, is_ascii_alphabetic
 abbrev pub between : (least b greatest : ℕ) → Bool

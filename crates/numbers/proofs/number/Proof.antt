@@ -1,12 +1,33 @@
 -- K is tried first, then M.
-use mathlib.Core.Path.{sym, ap}
+use mathlib.Core.Path.{refl, sym, ap}
 use borrow.Author.Needs.{needs}
 use Rattle.rules.specs.Numbers.{suffix, number-with-suffix}
-use Rattle.lex.specs.Contract.{read}
+use Rattle.lex.specs.Contract.{Lexes, read}
+use Rattle.lex.specs.declared.Cursor.{Cursor}
 use Rattle.numbers.specs.Answers.{valued}
 use Rattle.lex.proofs.Lexes.{known, then-on, stop, first, second, opt-some, opt-none, given, given-as}
+use Rattle.lex.proofs.Way.{Trail, On, set-out, past, missed, arrived}
 use Rattle.numbers.proofs.number.Statement.{statement}
 use Rattle.numbers.proofs.number.Tie as tie
+
+abbrev Along : tie.Start → Cursor → Type 0
+Along start = Trail (Lexes number-with-suffix (start .args .script .now) (start .args .c)) (start .args .script .now)
+
+abbrev at-base : (c : tie.After-base) → Along (c .before .before .before .before) (c .base .given .0 .1 .0)
+unfolding number-with-suffix
+at-base c = past set-out _ refl (known valued (c .before .before .base-number-at .ensures) (c .base .given .1))
+
+abbrev at-plain : (c : tie.After-enum-told3) → On (at-base (c .before .before .before .before .before .before .before .before .before .before .before)) (c .before .before .before .before .before .before .before .before .before .before .before .base .given .0 .1 .0)
+unfolding number-with-suffix suffix
+at-plain c = past (at-base (c .before .before .before .before .before .before .before .before .before .before .before)) _ refl (opt-none (second (stop _ (known read (c .before .before .before .before .before .before .before .either .ensures) (c .before .before .before .before .before .enum-told2 .given .1))) (stop _ (known read (c .before .before .either2 .ensures) (c .enum-told3 .given .1)))))
+
+abbrev at-mega : (c : tie.After-mega) → On (at-base (c .before .before .before .before .before .before .before .before .before .before .before)) (c .mega .given .0 .0)
+unfolding number-with-suffix suffix
+at-mega c = past (at-base (c .before .before .before .before .before .before .before .before .before .before .before)) _ refl (opt-some (second (stop _ (known read (c .before .before .before .before .before .before .before .either .ensures) (c .before .before .before .before .before .enum-told2 .given .1))) (then-on _ (known read (c .before .before .either2 .ensures) (c .mega .given .1)) (given _))))
+
+abbrev at-kilo : (c : tie.After-kilo) → On (at-base (c .before .before .before .before .before .before)) (c .kilo .given .0 .0)
+unfolding number-with-suffix suffix
+at-kilo c = past (at-base (c .before .before .before .before .before .before)) _ refl (opt-some (first _ (then-on _ (known read (c .before .before .either .ensures) (c .kilo .given .1)) (given _))))
 
 pub number-spec : {M : Type 1} → statement M
 unfolding number-with-suffix suffix
@@ -16,7 +37,7 @@ number-spec =
     (λ c κs. search needs)
     (λ c. search needs)
     (λ c. search needs)
-    (λ c. stop _ (known valued (c .before .before .base-number-at .ensures) (c .enum-told .given .1)))
+    (λ c. missed set-out _ refl (known valued (c .before .before .base-number-at .ensures) (c .enum-told .given .1)))
     (λ c. search needs)
     (λ c. search needs)
     (λ c κs. search needs)
@@ -27,8 +48,8 @@ number-spec =
     (λ c κs. search needs)
     (λ c. search needs)
     (λ c. search needs)
-    (λ c. let base-number-at = c .before .before .before .before .before .before .before .before .before .before .before .before .before .base-number-at in let base = c .before .before .before .before .before .before .before .before .before .before .before .base in let either = c .before .before .before .before .before .before .before .either in let enum-told2 = c .before .before .before .before .before .enum-told2 in then-on _ (known valued (base-number-at .ensures) (base .given .1)) (then-on _ (opt-none (second (stop _ (known read (either .ensures) (enum-told2 .given .1))) (stop _ (known read (c .before .before .either2 .ensures) (c .enum-told3 .given .1))))) (given _)))
+    (λ c. arrived (at-plain c) (given _))
     (λ c κs. search needs)
-    (λ c. let base-number-at = c .before .before .before .before .before .before .before .before .before .before .before .before .before .before .before .base-number-at in let base = c .before .before .before .before .before .before .before .before .before .before .before .before .before .base in let either = c .before .before .before .before .before .before .before .before .before .either in let enum-told2 = c .before .before .before .before .before .before .before .enum-told2 in let either2 = c .before .before .before .before .either2 in then-on _ (known valued (base-number-at .ensures) (base .given .1)) (then-on _ (opt-some (second (stop _ (known read (either .ensures) (enum-told2 .given .1))) (then-on _ (known read (either2 .ensures) (c .before .before .mega .given .1)) (given _)))) (given-as (ap (λ v. record { value = v }) (sym (c .times-mega .ensures))))))
+    (λ c. arrived (at-mega (c .before .before)) (given-as (ap (λ v. record { value = v }) (sym (c .times-mega .ensures)))))
     (λ c κs. search needs)
-    (λ c. let base-number-at = c .before .before .before .before .before .before .before .before .before .before .base-number-at in let base = c .before .before .before .before .before .before .before .before .base in let either = c .before .before .before .before .either in then-on _ (known valued (base-number-at .ensures) (base .given .1)) (then-on _ (opt-some (first _ (then-on _ (known read (either .ensures) (c .before .before .kilo .given .1)) (given _)))) (given-as (ap (λ v. record { value = v }) (sym (c .times-kilo .ensures)))))))
+    (λ c. arrived (at-kilo (c .before .before)) (given-as (ap (λ v. record { value = v }) (sym (c .times-kilo .ensures))))))

@@ -1,12 +1,46 @@
--- Each way through the code is a way through the rule.
+-- Each step of the code is a step of the rule.
+use mathlib.Core.Path.{refl}
+use mathlib.Core.Bool.{true, false}
 use borrow.Author.Needs.{needs}
 use borrow.Author.Tests.{not-true, not-false}
-use mathlib.Core.Bool.{true, false}
-use Rattle.lex.specs.Contract.{read, taken}
 use Rattle.rules.specs.Bytes.{comment}
-use Rattle.lex.proofs.Lexes.{known, then-on, stop, chosen, passed-over, given, asked}
+use Rattle.lex.specs.Contract.{Lexes, read, taken}
+use Rattle.lex.specs.declared.Cursor.{Cursor}
+use Rattle.lex.proofs.Lexes.{known, given, asked}
+use Rattle.lex.proofs.Way.{Trail, On, set-out, past, missed, arrived, where-so, where-not}
 use Rattle.lex.proofs.Cursor.comment.Statement.{statement}
 use Rattle.lex.proofs.Cursor.comment.Tie as tie
+
+abbrev Along : tie.Start → Cursor → Type 0
+Along start = Trail (Lexes comment (start .args .script .now) (start .args .self)) (start .args .script .now)
+
+abbrev at-test : (c : tie.After-starts) → Along (c .before .before .before) (c .before .before .before .args .self)
+unfolding comment
+at-test c = past set-out _ refl (asked "#" (c .starts .ensures))
+
+abbrev at-hash : (c : tie.Then1) → On (at-test (c .before)) (c .before .before .before .before .args .self)
+unfolding comment
+at-hash c = where-so (at-test (c .before)) _ _ refl (c .if1 .taken)
+
+abbrev at-line : (c : tie.After-line) → On (at-hash (c .before .before .before .before)) (c .line .given .0 .1 .0)
+unfolding comment
+at-line c = past (at-hash (c .before .before .before .before)) _ refl (known taken (c .before .before .take-until .ensures) (c .line .given .1))
+
+abbrev at-test2 : (c : tie.After-starts2) → On (at-test (c .before .before .before)) (c .before .before .before .before .before .before .args .self)
+unfolding comment
+at-test2 c = past (where-not (at-test (c .before .before .before)) _ _ refl (c .before .before .if1 .left)) _ refl (asked "/*" (c .starts2 .ensures))
+
+abbrev at-slash : (c : tie.Else2) → On (at-test2 (c .before)) (c .before .before .before .before .before .before .before .args .self)
+unfolding comment
+at-slash c = where-so (at-test2 (c .before)) _ _ refl (not-false _ (c .if2 .left))
+
+abbrev at-block : (c : tie.After-block) → On (at-slash (c .before .before .before .before)) (c .block .given .0 .1 .0)
+unfolding comment
+at-block c = past (at-slash (c .before .before .before .before)) _ refl (known taken (c .before .before .take-until2 .ensures) (c .block .given .1))
+
+abbrev at-ended : (c : tie.After-ended) → On (at-block (c .before .before .before .before .before)) (c .ended .given .0 .0)
+unfolding comment
+at-ended c = past (at-block (c .before .before .before .before .before)) _ refl (known read (c .before .before .word .ensures) (c .ended .given .1))
 
 pub comment-spec : {M : Type 1} → statement M
 unfolding comment
@@ -19,19 +53,19 @@ comment-spec =
     (λ c κs. search needs)
     (λ c. search needs)
     (λ c. search needs)
-    (λ c. let starts = c .before .before .before .before .before .starts in then-on _ (asked "#" (starts .ensures)) (chosen _ (c .before .before .before .before .if1 .taken) (stop _ (known taken (c .before .before .take-until .ensures) (c .enum-told .given .1)))))
-    (λ c. let starts = c .before .before .before .before .before .before .starts in let if1 = c .before .before .before .before .before .if1 in then-on _ (asked "#" (starts .ensures)) (chosen _ (if1 .taken) (then-on _ (known taken (c .before .before .before .take-until .ensures) (c .before .line .given .1)) (given true))))
+    (λ c. missed (at-hash (c .before .before .before .before)) _ refl (known taken (c .before .before .take-until .ensures) (c .enum-told .given .1)))
+    (λ c. arrived (at-line (c .before)) (given true))
     (λ c. search needs)
     (λ c κs. search needs)
-    (λ c. let starts = c .before .before .before .before .starts in then-on _ (asked "#" (starts .ensures)) (passed-over _ (c .before .before .before .if1 .left) (then-on _ (asked "/*" (c .before .starts2 .ensures)) (passed-over _ (not-true _ (c .if2 .taken)) (given false)))))
-    (λ c. search needs)
-    (λ c κs. search needs)
-    (λ c. search needs)
-    (λ c. search needs)
-    (λ c. let starts = c .before .before .before .before .before .before .before .before .starts in let if1 = c .before .before .before .before .before .before .before .if1 in let starts2 = c .before .before .before .before .before .starts2 in then-on _ (asked "#" (starts .ensures)) (passed-over _ (if1 .left) (then-on _ (asked "/*" (starts2 .ensures)) (chosen _ (not-false _ (c .before .before .before .before .if2 .left)) (stop _ (known taken (c .before .before .take-until2 .ensures) (c .enum-told2 .given .1)))))))
+    (λ c. arrived (where-not (at-test2 (c .before)) _ _ refl (not-true _ (c .if2 .taken))) (given false))
     (λ c. search needs)
     (λ c κs. search needs)
     (λ c. search needs)
     (λ c. search needs)
-    (λ c. let starts = c .before .before .before .before .before .before .before .before .before .before .before .before .before .starts in let if1 = c .before .before .before .before .before .before .before .before .before .before .before .before .if1 in let starts2 = c .before .before .before .before .before .before .before .before .before .before .starts2 in let if2 = c .before .before .before .before .before .before .before .before .before .if2 in let take-until2 = c .before .before .before .before .before .before .before .take-until2 in let block = c .before .before .before .before .before .block in then-on _ (asked "#" (starts .ensures)) (passed-over _ (if1 .left) (then-on _ (asked "/*" (starts2 .ensures)) (chosen _ (not-false _ (if2 .left)) (then-on _ (known taken (take-until2 .ensures) (block .given .1)) (stop _ (known read (c .before .before .word .ensures) (c .enum-told3 .given .1))))))))
-    (λ c. let starts = c .before .before .before .before .before .before .before .before .before .before .before .before .before .before .starts in let if1 = c .before .before .before .before .before .before .before .before .before .before .before .before .before .if1 in let starts2 = c .before .before .before .before .before .before .before .before .before .before .before .starts2 in let if2 = c .before .before .before .before .before .before .before .before .before .before .if2 in let take-until2 = c .before .before .before .before .before .before .before .before .take-until2 in let block = c .before .before .before .before .before .before .block in then-on _ (asked "#" (starts .ensures)) (passed-over _ (if1 .left) (then-on _ (asked "/*" (starts2 .ensures)) (chosen _ (not-false _ (if2 .left)) (then-on _ (known taken (take-until2 .ensures) (block .given .1)) (then-on _ (known read (c .before .before .before .word .ensures) (c .before .ended .given .1)) (given true))))))))
+    (λ c. missed (at-slash (c .before .before .before .before)) _ refl (known taken (c .before .before .take-until2 .ensures) (c .enum-told2 .given .1)))
+    (λ c. search needs)
+    (λ c κs. search needs)
+    (λ c. search needs)
+    (λ c. search needs)
+    (λ c. missed (at-block (c .before .before .before .before .before)) _ refl (known read (c .before .before .word .ensures) (c .enum-told3 .given .1)))
+    (λ c. arrived (at-ended (c .before)) (given true)))
