@@ -1,16 +1,15 @@
--- How what the parts of a rule show makes what the whole shows, a law for each way of going on: after bytes, a try, a record.
+-- How what the parts of a rule show makes what the whole shows, a law for each way: a try, bytes that end a rule, a record.
 -- Each by rewriting with what the parts answer; that a byte was read for each record is the rule's own law.
 use mathlib.Core.Path.{_≡_, refl, sym, ap, subst, _∙_}
-use Prim.Native.Nat.{ℕ, suc, _+_, _*_, _-_, _≤_, _<_}
+use Prim.Native.Nat.{ℕ, suc, _+_, _*_, _-_, _≤_}
 use native.Mathlib.Omega.{arith}
 use native.Mathlib.Numerals.{add-one}
 use mathlib.Core.List.{List, [], _∷_, _++_}
-use mathlib.Core.Bool.{Bool, true, false}
 use lib.ListN.{length, take, drop, length-append}
 use lib.Seq.{sets-eq, take-at, take-take, take-append-le, length-take-le}
-use Rattle.rules.specs.Rule.{Rule, got, holds, more, _>>=_, if_then_else_, _or-else_, too-deep, add}
+use Rattle.rules.specs.Rule.{Rule, got, holds, more, _>>=_, _or-else_, too-deep, add}
 use Rattle.rules.proofs.Pays.{Fine, PaidOut}
-use Rattle.lex.specs.Contract.{Went, went, lost, sunk, Lexes, Moved}
+use Rattle.lex.specs.Contract.{Went, went, lost, sunk, Lexes}
 use Rattle.lex.specs.declared.Cursor.{Cursor}
 use Rattle.tape.specs.Contract.{Runs, Run, Room, Pushed, shown, CameTo, Reads}
 
@@ -31,10 +30,6 @@ met {A} {rule} {s} {t} {c} {r} {t′} fine room x = record { said = x .said; kep
         record { on = p .on; inside = omega arith; grown = p .floor; paid = omega arith }
     go lost q = tt
     go sunk q = tt
-
--- where a byte was read that has no record yet, there is room for one
-pub space : {s t : List ℕ} {c e : Cursor} → Room s t c → Moved s c e → c .at < e .at → 5 * e .count + 5 ≤ length t
-space room m h = let q = m .count in omega arith
 
 -- one record more on the tape is one more that is held
 module _ {t : List ℕ} {c : Cursor} {r t₁ : List ℕ} {e : Cursor} (x : Pushed t c r t₁ e) (five : length r ≡ 5) (room : 5 * c .count + 5 ≤ length t) where
@@ -60,17 +55,8 @@ pub known-run : {R A : Type 0} {n : ℕ} {rule : Rule A} {s t : List ℕ} {c : C
 known-run {n = n} {rule} {s} {t} {c} {t′} view x e = subst (λ r. Runs n rule s t c (view r) t′) e x
 
 module _ {s t : List ℕ} {c : Cursor} where
-  -- AFTER BYTES, which hold what was held
-  pub bytes-then : {A B : Type 0} {m : Rule A} (n : A → Rule B) {a : A} {e : Cursor} {r : Went B} {t′ : List ℕ} → Lexes m s c (went a e) → Run (n a) s t e r t′ → Run (m >>= n) s t c r t′
-  unfolding _>>=_
-  bytes-then n {e = e} x y = let q : c .count ≡ e .count = sym (x .moved .count) in record { said = rw (x .said (holds (c .count) t), q) (y .said); kept = rw q (y .kept) }
-
   -- tries
-  pub second-run : {A : Type 0} {m n : Rule A} {r : Went A} {t′ : List ℕ} → Lexes m s c lost → Run n s t c r t′ → Run (m or-else n) s t c r t′
-  unfolding _or-else_
-  second-run x y = record { said = rw (x .said (holds (c .count) t)) (y .said); kept = y .kept }
-
-  pub first-run : {A : Type 0} {m : Rule A} (n : Rule A) {a : A} {e : Cursor} {t′ : List ℕ} → Run m s t c (went a e) t′ → Run (m or-else n) s t c (went a e) t′
+  pub first-run : {A : Type 0} {f : ℕ} {m : Rule A} (n : Rule A) {a : A} {e : Cursor} {t′ : List ℕ} → Runs f m s t c (went a e) t′ → Runs f (m or-else n) s t c (went a e) t′
   unfolding _or-else_
   first-run n x = record { said = rw (x .said); kept = x .kept }
 
@@ -89,16 +75,6 @@ module _ {s t : List ℕ} {c : Cursor} where
   as-read (went a e) x = as-bytes x
   as-read lost x = as-lost x
   as-read sunk x = record { said = x .said (holds (c .count) t); kept = refl }
-
-  -- a test, and what follows both its ways
-  module _ {A B : Type 0} (k : A → Rule B) {r : Went B} {t′ : List ℕ} where
-    pub chosen-then : (m n : Rule A) {b : Bool} → b ≡ true → Run (m >>= k) s t c r t′ → Run ((if b then m else n) >>= k) s t c r t′
-    unfolding if_then_else_
-    chosen-then m n e x = rw e x
-
-    pub other-then : (m n : Rule A) {b : Bool} → b ≡ false → Run (n >>= k) s t c r t′ → Run ((if b then m else n) >>= k) s t c r t′
-    unfolding if_then_else_
-    other-then m n e x = rw e x
 
   pub sinks-here : {A : Type 0} → Run {A = A} too-deep s t c sunk t
   unfolding too-deep

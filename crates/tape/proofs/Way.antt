@@ -23,7 +23,7 @@ use Rattle.tape.specs.declared.Counted.{Counted}
 use Rattle.tape.specs.declared.Counted.the-variants as counting
 use Rattle.tape.proofs.Step.{the-type}
 use Rattle.tape.proofs.Counted as counted-enum
-use Rattle.tape.proofs.Runs.{fewer, runs, met, one-more, still-there, first-run, sunk-run}
+use Rattle.tape.proofs.Runs.{fewer, runs, met, one-more, still-there, as-lost, first-run, sunk-run}
 
 pub record Walk {A : Type 0} (Goal : Went A → List ℕ → Type 0) (s : List ℕ) (n f k : ℕ) (t₁ : List ℕ) (e : Cursor) : Type 0 where
   pub rest : Rule A
@@ -43,6 +43,16 @@ module _ {A : Type 0} {Goal : Went A → List ℕ → Type 0} {s : List ℕ} {n 
 
   abbrev pub Again : Walk Goal s n f k t₁ e → List ℕ → Type 0
   Again _ t₂ = Walk Goal s n f k t₂ e
+
+-- what is shown within a try: what it reads
+abbrev pub Reading : {A : Type 0} → (Went A → List ℕ → Type 0) → Went A → List ℕ → Type 0
+Reading Goal (went a e) t = Goal (went a e) t
+Reading Goal lost t = Unit {0}
+Reading Goal sunk t = Unit {0}
+
+-- a point within a try of the way
+abbrev pub Trying : {A : Type 0} {Goal : Went A → List ℕ → Type 0} {s : List ℕ} {n f k : ℕ} {t₁ : List ℕ} {e : Cursor} → Walk Goal s n f k t₁ e → ℕ → List ℕ → Cursor → Type 0
+Trying {Goal = Goal} {s} {n} {f} _ = Walk (Reading Goal) s n f
 
 -- a loop: the rule that is left is that of the turns that are left
 pub record Loop {A : Type 0} (Goal : Went A → List ℕ → Type 0) (s : List ℕ) (n f : ℕ) (rule : Rule A) (t₁ : List ℕ) (e : Cursor) : Type 0 where
@@ -278,6 +288,27 @@ module _ {A : Type 0} {Goal : Went A → List ℕ → Type 0} {s : List ℕ} {z 
     spare = w .spare;
     low = w .low;
   }
+
+  -- past one that reads bytes alone, and failed
+  abbrev pub instead : {k : ℕ} {m : Rule A} (n : Rule A) (w : Walk Goal s z f k t₁ e) → w .rest ≡ (m or-else n) → Lexes m s e lost → Walk Goal s z f k t₁ e
+  instead n w q x = record {
+    rest = n;
+    go = λ {r} {t′} y. w .go (subst (λ v. Runs f v s t₁ e r t′) (sym q) (try-on n (w .low) (as-lost x) y));
+    room = w .room;
+    size = w .size;
+    spare = w .spare;
+    low = w .low;
+  }
+
+  -- within one that is to read
+  module _ {k : ℕ} (m n : Rule A) (w : Walk Goal s z f k t₁ e) (q : w .rest ≡ (m or-else n)) where
+    pub as-tried : (r : Went A) {t′ : List ℕ} → Runs f m s t₁ e r t′ → Reading Goal r t′
+    as-tried (went a g) {t′} y = w .go (subst (λ v. Runs f v s t₁ e (went a g) t′) (sym q) (first-run n y))
+    as-tried lost y = tt
+    as-tried sunk y = tt
+
+    abbrev pub within : Walk (Reading Goal) s z f k t₁ e
+    within = record { rest = m; go = λ {r} y. as-tried r y; room = w .room; size = w .size; spare = w .spare; low = w .low }
 
   -- at the rule's own end
   pub ends-here : {k : ℕ} (w : Walk Goal s z f k t₁ e) {r : Went A} {t′ : List ℕ} → Run (w .rest) s t₁ e r t′ → Goal r t′
