@@ -22,6 +22,7 @@ use Rattle.rules.specs.declared.Segment.{Segment}
 use Rattle.rules.specs.declared.Braced.{Braced}
 use Rattle.rules.specs.declared.Braced.the-variants.{Sections, Memory, Phdrs}
 use Rattle.rules.proofs.Pays.{Pays, Even, Fair, Fine, Earns, _with-it_, _before_, _or-it_, opted-or, opted-still, either, weaker, floored, wrong, sinks, gives, sized, peeks, absent, ends, over, earns, costs, returns, repeats, perhaps-pays, passed, refused}
+use Rattle.rules.proofs.Ahead.{Steps, _then-costs_}
 use Rattle.rules.proofs.Bytes.{skip-pays, token-pays, pattern-name-pays, tag-skip-pays, tag-skip-earns, skip-tag-pays, skip-tag-skip-pays, skip-tag-skip-earns, opt-tag-pays, opt-tag-skip-pays}
 use Rattle.rules.proofs.Expressions.{keyword-pays, assert-pays, signed-pays, signed-two-pays, expression-pays}
 
@@ -78,11 +79,14 @@ pub pattern-pays : Fine pattern
 unfolding pattern
 pattern-pays f i = opted-or (sort-pays f i) (plain-pattern-pays f i) (λ sorted. sorted-pattern-pays sorted f i)
 
-pub matcher-pattern-pays : (k : ℕ) → Fine (matcher-pattern k)
+pub matcher-pattern-steps : (k : ℕ) → Steps (matcher-pattern k)
 unfolding matcher-pattern
-matcher-pattern-pays k f i =
-    token-pays f i with-it (λ file. skip-tag-skip-pays _ f (suc i) before repeats (pattern-pays f (suc i)) (over _)
+matcher-pattern-steps k =
+    token-pays then-costs (λ file f i. skip-tag-skip-pays _ f (suc i) before repeats (pattern-pays f (suc i)) (over _)
     with-it (λ patterns. skip-pays f (suc i) before keyword-pays file f (suc i) with-it (λ w. either _ (costs _ _ _ _ _) (costs _ _ _ _ _))))
+
+pub matcher-pattern-pays : (k : ℕ) → Fine (matcher-pattern k)
+matcher-pattern-pays k = matcher-pattern-steps k .fine
 
 pub keep-pays : Fine keep
 unfolding keep
@@ -92,9 +96,12 @@ pub matcher-pays : Fine matcher
 unfolding matcher
 matcher-pays f i = (keep-pays f i or-it matcher-pattern-pays 0 f i) before opt-tag-skip-pays _ f i
 
-pub constructors-pays : Fine constructors
+pub constructors-steps : Steps constructors
 unfolding constructors
-constructors-pays f i = tag-skip-earns _ (omega arith) f i before costs _ _ _ _ _
+constructors-steps = tag-skip-earns _ (omega arith) then-costs (λ _ f i. costs _ _ _ _ _)
+
+pub constructors-pays : Fine constructors
+constructors-pays = constructors-steps .fine
 
 module _ {e : Rule (Unit {0})} (y : Fine e) where
   pub contents-provide-pays : Fine (contents-provide e)
@@ -106,11 +113,14 @@ module _ {e : Rule (Unit {0})} (y : Fine e) where
   unfolding contents-assert
   contents-assert-pays f i = tag-skip-pays _ f i before assert-pays 50 y f i before opt-tag-skip-pays _ f i
 
-  pub assignment-pays : Fine (assignment e)
+  pub assignment-steps : Steps (assignment e)
   unfolding assignment
-  assignment-pays f i =
-      token-pays f i with-it (λ name. skip-pays f (suc i) before keyword-pays name f (suc i) with-it (λ k. assignment-op-pays name _ f (suc i)
+  assignment-steps =
+      token-pays then-costs (λ name f i. skip-pays f (suc i) before keyword-pays name f (suc i) with-it (λ k. assignment-op-pays name _ f (suc i)
       with-it (λ op. expand-costs y op f (suc i) before assigned-costs name _ f i before opt-tag-skip-pays _ f i)))
+
+  pub assignment-pays : Fine (assignment e)
+  assignment-pays = assignment-steps .fine
 
   pub contents-command-pays : Fine (contents-command e)
   unfolding contents-command
@@ -118,21 +128,27 @@ module _ {e : Rule (Unit {0})} (y : Fine e) where
       contents-provide-pays f i or-it (contents-assert-pays f i or-it (matcher-pays f i or-it (assignment-pays f i or-it constructors-pays f i)))
 
 -- SECTIONS
-pub section-attribute-pays : Fine section-attribute
+pub section-attribute-steps : Steps section-attribute
 unfolding section-attribute
-section-attribute-pays f i =
-    tag-skip-pays _ f i before weaker (token-pays f i) with-it (λ t. skip-pays f i before keyword-pays t f i with-it (λ k.
-    either _ wrong (over _ before gives _)))
+section-attribute-steps =
+    tag-skip-earns _ (omega arith) then-costs (λ _ f i. weaker (weaker (token-pays f (suc i)) with-it (λ t. skip-pays f (suc i) before keyword-pays t f (suc i) with-it (λ k.
+    either _ wrong (over _ before gives _)))))
+
+pub section-attribute-pays : Fine section-attribute
+section-attribute-pays = section-attribute-steps .fine
 
 pub ending-sign-pays : Earns ending-sign
 unfolding ending-sign
 ending-sign-pays f i = signed-pays _ _ (omega arith) f i or-it (signed-pays _ _ (omega arith) f i or-it signed-pays _ _ (omega arith) f i)
 
 module _ {e : Rule (Unit {0})} (y : Fine e) where
-  pub bracketed-pays : (kind : ℕ) → Fine (bracketed e kind)
+  pub bracketed-steps : (kind : ℕ) → Steps (bracketed e kind)
   unfolding bracketed
-  bracketed-pays kind f i =
-      skip-tag-skip-earns _ (omega arith) f i before y f (suc i) before skip-tag-skip-pays _ f (suc i) before costs _ _ _ _ _
+  bracketed-steps kind =
+      skip-tag-skip-earns _ (omega arith) then-costs (λ _ f i. y f (suc i) before skip-tag-skip-pays _ f (suc i) before costs _ _ _ _ _)
+
+  pub bracketed-pays : (kind : ℕ) → Fine (bracketed e kind)
+  bracketed-pays kind = bracketed-steps kind .fine
 
   pub alignment-pays : Fine (alignment e)
   unfolding alignment
@@ -211,12 +227,15 @@ module _ {e : Rule (Unit {0})} (y : Fine e) where
   section-or-assignment-costs name dot f i =
       opted-or (assignment-op-pays name dot f (suc i)) (section-costs name f i) (λ op. section-assignment-costs name dot op f i)
 
-  pub section-command-pays : Fine (section-command e)
+  pub section-command-steps : Steps (section-command e)
   unfolding section-command
-  section-command-pays f i =
-      token-pays f i with-it (λ name. skip-pays f (suc i) before keyword-pays name f (suc i) with-it (λ k.
+  section-command-steps =
+      token-pays then-costs (λ name f i. skip-pays f (suc i) before keyword-pays name f (suc i) with-it (λ k.
       either _ (weaker (assert-pays 50 y f (suc i))) (either _ (weaker (provide-pays y 0 f (suc i))) (either _ (weaker (provide-pays y 1 f (suc i)))
       (section-or-assignment-costs name _ f i)))))
+
+  pub section-command-pays : Fine (section-command e)
+  section-command-pays = section-command-steps .fine
 
 -- COMMANDS
 pub entry-pays : Fine entry
@@ -289,11 +308,14 @@ module _ {e : Rule (Unit {0})} (y : Fine e) where
   bound-pays a b c f i =
       ((over a before gives _) or-it ((over b before gives _) or-it (over c before gives _))) before skip-tag-skip-pays _ f i before y f i
 
-  pub memory-region-pays : Fine (memory-region e)
+  pub memory-region-steps : Steps (memory-region e)
   unfolding memory-region
-  memory-region-pays f i =
-      token-pays f i with-it (λ name. skip-tag-skip-pays _ f (suc i) before bound-pays _ _ _ f (suc i) before skip-tag-skip-pays _ f (suc i)
+  memory-region-steps =
+      token-pays then-costs (λ name f i. skip-tag-skip-pays _ f (suc i) before bound-pays _ _ _ f (suc i) before skip-tag-skip-pays _ f (suc i)
       before bound-pays _ _ _ f (suc i) before costs _ _ _ _ _)
+
+  pub memory-region-pays : Fine (memory-region e)
+  memory-region-pays = memory-region-steps .fine
 
   pub segment-kind-pays : Fine (segment-kind e)
   unfolding segment-kind
@@ -314,16 +336,22 @@ module _ {e : Rule (Unit {0})} (y : Fine e) where
   unfolding segment-words
   segment-words-pays f i = sized with-it (λ n. segment-words-from-pays (suc n) _ f i)
 
-  pub phdr-pays : Fine (phdr e)
+  pub phdr-steps : Steps (phdr e)
   unfolding phdr
-  phdr-pays f i =
-      token-pays f i with-it (λ name. skip-pays f (suc i) before segment-kind-pays f (suc i) before skip-pays f (suc i)
+  phdr-steps =
+      token-pays then-costs (λ name f i. skip-pays f (suc i) before segment-kind-pays f (suc i) before skip-pays f (suc i)
       before segment-words-pays f (suc i) with-it (λ words. opt-tag-skip-pays _ f (suc i) before costs _ _ _ _ _))
 
+  pub item-steps : (which : Braced) → Steps (item e which)
+  item-steps Sections = section-command-steps y
+  item-steps Memory = memory-region-steps
+  item-steps Phdrs = phdr-steps
+
+  pub phdr-pays : Fine (phdr e)
+  phdr-pays = phdr-steps .fine
+
   pub item-pays : (which : Braced) → Fine (item e which)
-  item-pays Sections = section-command-pays y
-  item-pays Memory = memory-region-pays
-  item-pays Phdrs = phdr-pays
+  item-pays which = item-steps which .fine
 
   pub braced-pays : (which : Braced) → Fine (braced e which)
   unfolding braced
@@ -355,10 +383,13 @@ module _ {e : Rule (Unit {0})} (y : Fine e) where
         (either _ (weaker (asserted-pays f (suc i))) (either _ (weaker (braced-pays Memory f (suc i)))
         (either _ (weaker (braced-pays Phdrs f (suc i))) (other-costs name _ f i)))))))))))))
 
-    pub command-with-pays : Fine (command-with e g)
+    pub command-with-steps : Steps (command-with e g)
     unfolding command-with
-    command-with-pays f i =
-        token-pays f i with-it (λ name. skip-pays f (suc i) before keyword-pays name f (suc i) with-it (λ k. commanded-costs name k f i before skip-pays f i))
+    command-with-steps =
+        token-pays then-costs (λ name f i. skip-pays f (suc i) before keyword-pays name f (suc i) with-it (λ k. commanded-costs name k f i before skip-pays f i))
+
+    pub command-with-pays : Fine (command-with e g)
+    command-with-pays = command-with-steps .fine
 
 pub group-pays : (mode : Mode) (left : ℕ) → Fine (group mode left)
 unfolding group
@@ -371,7 +402,7 @@ unfolding command
 command-pays mode left = command-with-pays (expression-pays mode left) (group-pays mode left)
 
 -- A WHOLE SCRIPT
-noted-pays : (x : Report) → Fine (noted x)
+pub noted-pays : (x : Report) → Fine (noted x)
 unfolding noted
 noted-pays x f i = record { fair = λ s p h a b. passed f i s p p i h a b (omega arith) (omega arith) b }
 
