@@ -5,7 +5,7 @@ ghost use mathlib.Core.List.{_++_};
 ghost use lib.ListN.{length};
 ghost use Rattle.rules.specs.Text.{ascii};
 ghost use Rattle.script.specs.Call.{call, said};
-ghost use Rattle.lister.specs.Listing as text;
+ghost use Rattle.lister.specs.Listing as listing;
 ghost use Rattle.lister.specs.Listing.{Put};
 use lex::bytes;
 use libc::STDOUT_FILENO;
@@ -15,22 +15,22 @@ use script::Answer;
 pub const LINE: usize = 105;
 
 // A text at a place of the line.
-fn put(line: &mut [u8], at: usize, words: &[u8]) -> usize
-    requires { ⌜ at + length (now words) ≤ length (now line) ⌝ }
-    ensures { λ r. ⌜ Put (now (words .entry)) (now (line .entry)) at (now (line .exit)) r ⌝ }
+fn put(line: &mut [u8], at: usize, text: &[u8]) -> usize
+    requires { ⌜ at + length (now text) ≤ length (now line) ⌝ }
+    ensures { λ r. ⌜ Put (now (text .entry)) (now (line .entry)) at (now (line .exit)) r ⌝ }
 {
     let mut i = 0;
-    while i < words.len() {
-        line[at + i] = words[i];
+    while i < text.len() {
+        line[at + i] = text[i];
         i += 1;
     }
-    at + words.len()
+    at + text.len()
 }
 
 // A number in decimal.
 fn put_decimal(line: &mut [u8], at: usize, n: u64) -> usize
     requires { ⌜ at + 20 ≤ length (now line) ⌝ }
-    ensures { λ r. ⌜ Put (text.decimal n) (now (line .entry)) at (now (line .exit)) r ⌝ }
+    ensures { λ r. ⌜ Put (listing.decimal n) (now (line .entry)) at (now (line .exit)) r ⌝ }
     ensures { λ r. ⌜ r ≤ at + 20 ⌝ }
 {
     let mut digits = [0u8; 20];
@@ -41,7 +41,7 @@ fn put_decimal(line: &mut [u8], at: usize, n: u64) -> usize
 // A blank and a number.
 fn put_number(line: &mut [u8], at: usize, n: u64) -> usize
     requires { ⌜ at + 21 ≤ length (now line) ⌝ }
-    ensures { λ r. ⌜ Put (text.number n) (now (line .entry)) at (now (line .exit)) r ⌝ }
+    ensures { λ r. ⌜ Put (listing.number n) (now (line .entry)) at (now (line .exit)) r ⌝ }
     ensures { λ r. ⌜ r ≤ at + 21 ⌝ }
 {
     let next = put(line, at, b" ");
@@ -51,7 +51,7 @@ fn put_number(line: &mut [u8], at: usize, n: u64) -> usize
 // A word, two numbers and a line end.
 fn put_answer(line: &mut [u8], word: &[u8], x: u64, y: u64) -> usize
     requires { ⌜ length (now word) + 43 ≤ length (now line) ⌝ }
-    ensures { λ r. ⌜ Put (now (word .entry) ++ text.number x ++ text.number y ++ ascii "\n") (now (line .entry)) 0 (now (line .exit)) r ⌝ }
+    ensures { λ r. ⌜ Put (now (word .entry) ++ listing.number x ++ listing.number y ++ ascii "\n") (now (line .entry)) 0 (now (line .exit)) r ⌝ }
 {
     let a = put(line, 0, word);
     let b = put_number(line, a, x);
@@ -61,7 +61,7 @@ fn put_answer(line: &mut [u8], word: &[u8], x: u64, y: u64) -> usize
 
 // The line of an answer, and its length.
 pub fn answer_line(r: Answer, line: &mut [u8; LINE]) -> usize
-    ensures { λ n. ⌜ Put (text.answer-line (said r)) (now (line .entry)) 0 (now (line .exit)) n ⌝ }
+    ensures { λ n. ⌜ Put (listing.answer-line (said r)) (now (line .entry)) 0 (now (line .exit)) n ⌝ }
 {
     match r {
         Answer::Read(x, n) => put_answer(line, b"ok", n as u64, x.commands as u64),
@@ -75,7 +75,7 @@ pub fn answer_line(r: Answer, line: &mut [u8; LINE]) -> usize
 
 // The line of five words.
 fn put_record(line: &mut [u8; LINE], kind: u64, a: u64, b: u64, c: u64, d: u64) -> usize
-    ensures { λ n. ⌜ Put (text.words-line kind a b c d) (now (line .entry)) 0 (now (line .exit)) n ⌝ }
+    ensures { λ n. ⌜ Put (listing.words-line kind a b c d) (now (line .entry)) 0 (now (line .exit)) n ⌝ }
 {
     let i = put_decimal(line, 0, kind);
     let j = put_number(line, i, a);
@@ -87,7 +87,7 @@ fn put_record(line: &mut [u8; LINE], kind: u64, a: u64, b: u64, c: u64, d: u64) 
 
 // The line of a tape's record, counted from 0, and its length; nothing where the tape ends before it.
 pub fn record_line(tape: &[u64], k: usize, line: &mut [u8; LINE]) -> usize
-    ensures { λ n. ⌜ Put (text.record-line (now (tape .entry)) k) (now (line .entry)) 0 (now (line .exit)) n ⌝ }
+    ensures { λ n. ⌜ Put (listing.record-line (now (tape .entry)) k) (now (line .entry)) 0 (now (line .exit)) n ⌝ }
 {
     if tape.len() / 5 <= k {
         return 0;

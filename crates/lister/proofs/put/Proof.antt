@@ -10,10 +10,10 @@ use Rattle.lister.proofs.put.Statement.{statement}
 use Rattle.lister.proofs.put.Tie as tie
 
 abbrev Inv-loop : tie.InvT-loop
-Inv-loop line₀ at words i₀ line i = (i ≤ length words) × (line ≡ paste line₀ at words i) × (length line ≡ length line₀)
+Inv-loop line₀ at text i₀ line i = (i ≤ length text) × (line ≡ paste line₀ at text i) × (length line ≡ length line₀)
 
 abbrev μ-loop : tie.MeasureT-loop
-μ-loop line₀ at words i₀ line i = length words - i
+μ-loop line₀ at text i₀ line i = length text - i
 
 pub put-spec : {M : Type 1} → statement M
 put-spec =
@@ -21,7 +21,7 @@ put-spec =
     (tie.spec
     Inv-loop
     μ-loop
-    (λ c. (omega arith, paste-zero (c .args .line .now) (c .args .at) (c .args .words .now), refl))
+    (λ c. (omega arith, paste-zero (c .args .line .now) (c .args .at) (c .args .text .now), refl))
     (λ c. search needs)
     (λ c. omega (arith, c .before .before .before .pre, c .before .before .loop .inv .0))
     (λ c. omega (arith, c .before .before .before .pre, c .before .loop-test .taken, c .before .before .loop .inv .2))
