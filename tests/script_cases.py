@@ -1411,6 +1411,16 @@ add(
     "GROUP(" + 99 * "a b=1 " + ")", "x = 1 " + 99 * "+ 1 ",
     "OUTPUT_ARCH(" + 99 * "x = 1;" + ") y",
 )
+# more than sixteen comments that are opened within a word, so that what is tried in vain over them is marked first
+OVER = [
+    "PROVIDE(a =/* )", "PROVIDE(a =(MIN(ASSERT(1,/* )", "PROVIDE(a =1?ASSERT(1,/* )", "ASSERT(1,/* )", "KEEP/*(a)", "CONSTRUCTORS+=/*(a)", "PROVIDE(a =1# )",
+    "ASSERT/*(a)", 'PROVIDE("a"/* )', "PROVIDE/*(a)", "PROVIDE/* = 1;", "CONSTRUCTORS=-(ASSERT(1,/* )",
+]
+BEHIND = ["", "*/1)}}", "*/1+1", '*/"m"),1))))}}', "*/(a(SORT(b) c))}}", "*/m):2)}}", "\n)}}", "*/=1)}}"]
+for k, (item, tail) in enumerate(itertools.product(OVER, BEHIND)):
+    long([k % 2], 17, f"SECTIONS{{a :{{{item}}}}}".encode(), tail.encode())
+    if k % 5 == 0:
+        long([k // 5 % 2], 1, f"SECTIONS{{a :{{{17 * item}{tail}".encode())
 # 59 to 61 records, and 0: from 61 on a checksum stands for them
 for n in (58, 59, 60, 61):
     long([n % 2], n, b"a ", b"b")

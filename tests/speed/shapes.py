@@ -87,6 +87,10 @@ SHAPES = {
     "the same before brackets": far("+" + "(" * 90 + "1" + ")" * 90),
     "the same in a section each": far("+1", "SECTIONS{", "a :{PROVIDE(a =/* )}", "a :{*/1"),
     "the same inside ASSERT": far("+1", CONTENTS, "PROVIDE(a =ASSERT(1,/* )", '*/"m")'),
+    "the same in brackets": far("+1", CONTENTS, "PROVIDE(a =(MIN((ASSERT(1,/* )", '*/"m")'),
+    "the same with KEEP": far(" SORT(b) b", CONTENTS, "KEEP/*(a)", "*/(a(b"),
+    "the same with CONSTRUCTORS": far("+1", CONTENTS, "CONSTRUCTORS+=/*(a)", "*/1"),
+    "a comment before a long token": far("a", CONTENTS, "PROVIDE(a =ASSERT(/* )", "*/1,"),
 }
 
 if __name__ == "__main__":

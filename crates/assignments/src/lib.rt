@@ -1,6 +1,7 @@
 // Assignments (01, rule 4): their signs and values, and the two commands that stand in a script, in SECTIONS and in contents alike.
 ghost use Prim.Native.Nat.{_+_, _≤_};
 ghost use lib.ListN.{length};
+ghost use Rattle.rules.specs.Rule.{_or-else_};
 ghost use Rattle.rules.specs.Expressions.{expression, assert};
 ghost use Rattle.rules.specs.Assignments as rule;
 ghost use Rattle.lex.specs.Contract.{Lexes, went};
@@ -168,4 +169,15 @@ pub fn asserted(script: &[u8], tape: &mut [u64], c: Cursor, mode: Mode, left: us
         return Step::Fail;
     };
     Step::Got(tape::push(tape, f, 50, t.start as u64, t.len as u64, c.at as u64, 0))
+}
+
+// The sign of an assignment, without its left operand.
+pub fn sign(script: &[u8], c: Cursor) -> Operated
+    ensures { λ r. ⌜ Lexes (rule.compound or-else rule.plain) (now (script .entry)) c (operated r) ⌝ }
+{
+    let found = compound(script, c);
+    let Operated::Fail = found else {
+        return found;
+    };
+    plain(script, c)
 }

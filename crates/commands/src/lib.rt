@@ -4,6 +4,7 @@ ghost use Prim.Native.Nat.{_+_, _≤_};
 ghost use Rattle.rules.specs.Rule.{repeat-till, word};
 ghost use Rattle.rules.specs.Expressions.{expression};
 ghost use Rattle.rules.specs.Commands as rule;
+ghost use Rattle.foresight.specs.Marks.{Marked};
 ghost use Rattle.tape.specs.Contract.{Room, Reads, Run, stepped, counted};
 use lex::Cursor;
 use lex::Read;
@@ -18,12 +19,21 @@ use tape::Step;
 pub mod formats;
 
 // One item of SECTIONS, MEMORY or PHDRS.
-fn item(script: &[u8], tape: &mut [u64], c: Cursor, mode: Mode, left: usize, which: Braced) -> Step
+fn item(
+    script: &[u8],
+    tape: &mut [u64],
+    c: Cursor,
+    mode: Mode,
+    left: usize,
+    which: Braced,
+    marks: &[u8],
+) -> Step
     requires { ⌜ Room (now script) (now tape) c ⌝ }
+    requires { ⌜ Marked mode (now script) (now marks) ⌝ }
     ensures { λ r. ⌜ Reads (rule.item (expression mode left) which) (now (script .entry)) (now (tape .entry)) c (stepped r) (now (tape .exit)) ⌝ }
 {
     match which {
-        Braced::Sections => sections::section_command(script, tape, c, mode, left),
+        Braced::Sections => sections::section_command(script, tape, c, mode, left, marks),
         Braced::Memory => segments::memory_region(script, tape, c, mode, left),
         Braced::Phdrs => segments::phdr(script, tape, c, mode, left),
     }
@@ -37,8 +47,10 @@ fn items(
     mode: Mode,
     left: usize,
     which: Braced,
+    marks: &[u8],
 ) -> Counted
     requires { ⌜ Room (now script) (now tape) c ⌝ }
+    requires { ⌜ Marked mode (now script) (now marks) ⌝ }
     ensures { λ r. ⌜ Reads (repeat-till (rule.item (expression mode left) which) (word "}")) (now (script .entry)) (now (tape .entry)) c (counted r) (now (tape .exit)) ⌝ }
 {
     let mut at = c;
@@ -52,7 +64,7 @@ fn items(
             }
             Read::Fail => {}
         }
-        let one = item(script, tape, at, mode, left, which);
+        let one = item(script, tape, at, mode, left, which, marks);
         let Step::Got(e) = one else {
             return one.counted(0);
         };
@@ -82,15 +94,17 @@ fn braced(
     mode: Mode,
     left: usize,
     which: Braced,
+    marks: &[u8],
 ) -> Step
     requires { ⌜ Room (now script) (now tape) c ⌝ }
+    requires { ⌜ Marked mode (now script) (now marks) ⌝ }
     ensures { λ r. ⌜ Reads (rule.braced (expression mode left) which) (now (script .entry)) (now (tape .entry)) c (stepped r) (now (tape .exit)) ⌝ }
 {
     let opened = c.word_skip(script, b"{");
     let Read::Got(d) = opened else {
         return Step::Fail;
     };
-    let list = items(script, tape, d, mode, left, which);
+    let list = items(script, tape, d, mode, left, which, marks);
     let Counted::Got(n, e) = list else {
         return list.step();
     };
@@ -173,15 +187,17 @@ fn paren_group(
     mode: Mode,
     left: usize,
     kind: u64,
+    marks: &[u8],
 ) -> Step
     requires { ⌜ Room (now script) (now tape) c ⌝ }
+    requires { ⌜ Marked mode (now script) (now marks) ⌝ }
     ensures { λ r. ⌜ Reads (rule.paren-group (rule.group mode left) kind) (now (script .entry)) (now (tape .entry)) c (stepped r) (now (tape .exit)) ⌝ }
 {
     let opened = c.word(script, b"(");
     let Read::Got(d) = opened else {
         return Step::Fail;
     };
-    let list = group(script, tape, d, mode, left);
+    let list = group(script, tape, d, mode, left, marks);
     let Counted::Got(n, e) = list else {
         return list.step();
     };
@@ -189,15 +205,23 @@ fn paren_group(
 }
 
 // OUTPUT_ARCH, after its word: its children go at its `)`.
-fn output_arch(script: &[u8], tape: &mut [u64], c: Cursor, mode: Mode, left: usize) -> Step
+fn output_arch(
+    script: &[u8],
+    tape: &mut [u64],
+    c: Cursor,
+    mode: Mode,
+    left: usize,
+    marks: &[u8],
+) -> Step
     requires { ⌜ Room (now script) (now tape) c ⌝ }
+    requires { ⌜ Marked mode (now script) (now marks) ⌝ }
     ensures { λ r. ⌜ Reads (rule.output-arch (rule.group mode left)) (now (script .entry)) (now (tape .entry)) c (stepped r) (now (tape .exit)) ⌝ }
 {
     let opened = c.word(script, b"(");
     let Read::Got(d) = opened else {
         return Step::Fail;
     };
-    let list = group(script, tape, d, mode, left);
+    let list = group(script, tape, d, mode, left, marks);
     let Counted::Got(_, e) = list else {
         return list.step();
     };
@@ -217,32 +241,42 @@ fn commanded(
     left: usize,
     name: Token,
     k: usize,
+    marks: &[u8],
 ) -> Step
     requires { ⌜ Room (now script) (now tape) c ⌝ }
     requires { ⌜ c .count + 1 ≤ c .at ⌝ }
+    requires { ⌜ Marked mode (now script) (now marks) ⌝ }
     ensures { λ r. ⌜ Run (rule.commanded (expression mode left) (rule.group mode left) name k) (now (script .entry)) (now (tape .entry)) c (stepped r) (now (tape .exit)) ⌝ }
 {
     match k {
-        keywords::GROUP => paren_group(script, tape, c, mode, left, 41),
-        keywords::INPUT => paren_group(script, tape, c, mode, left, 41),
+        keywords::GROUP => paren_group(script, tape, c, mode, left, 41, marks),
+        keywords::INPUT => paren_group(script, tape, c, mode, left, 41, marks),
         keywords::OUTPUT_FORMAT => formats::output_format(script, tape, c),
-        keywords::OUTPUT_ARCH => output_arch(script, tape, c, mode, left),
-        keywords::AS_NEEDED => paren_group(script, tape, c, mode, left, 42),
-        keywords::SECTIONS => braced(script, tape, c, mode, left, Braced::Sections),
+        keywords::OUTPUT_ARCH => output_arch(script, tape, c, mode, left, marks),
+        keywords::AS_NEEDED => paren_group(script, tape, c, mode, left, 42, marks),
+        keywords::SECTIONS => braced(script, tape, c, mode, left, Braced::Sections, marks),
         keywords::ENTRY => formats::entry(script, tape, c),
         keywords::VERSION => formats::version(script, tape, c),
         keywords::PROVIDE => assignments::provide(script, tape, c, mode, left, 0),
         keywords::PROVIDE_HIDDEN => assignments::provide(script, tape, c, mode, left, 1),
         keywords::ASSERT => asserted(script, tape, c, mode, left),
-        keywords::MEMORY => braced(script, tape, c, mode, left, Braced::Memory),
-        keywords::PHDRS => braced(script, tape, c, mode, left, Braced::Phdrs),
+        keywords::MEMORY => braced(script, tape, c, mode, left, Braced::Memory, marks),
+        keywords::PHDRS => braced(script, tape, c, mode, left, Braced::Phdrs, marks),
         _ => other(script, tape, c, mode, left, name, k == keywords::DOT),
     }
 }
 
 // One command, where so many levels may still be opened.
-pub fn command(script: &[u8], tape: &mut [u64], c: Cursor, mode: Mode, left: usize) -> Step
+pub fn command(
+    script: &[u8],
+    tape: &mut [u64],
+    c: Cursor,
+    mode: Mode,
+    left: usize,
+    marks: &[u8],
+) -> Step
     requires { ⌜ Room (now script) (now tape) c ⌝ }
+    requires { ⌜ Marked mode (now script) (now marks) ⌝ }
     ensures { λ r. ⌜ Reads (rule.command mode left) (now (script .entry)) (now (tape .entry)) c (stepped r) (now (tape .exit)) ⌝ }
 {
     let name = c.token(script);
@@ -254,7 +288,7 @@ pub fn command(script: &[u8], tape: &mut [u64], c: Cursor, mode: Mode, left: usi
         return Step::Fail;
     };
     let k = keywords::keyword_of(script, t);
-    let done = commanded(script, tape, e, mode, left, t, k);
+    let done = commanded(script, tape, e, mode, left, t, k, marks);
     let Step::Got(f) = done else {
         return done;
     };
@@ -266,8 +300,16 @@ pub fn command(script: &[u8], tape: &mut [u64], c: Cursor, mode: Mode, left: usi
 }
 
 // The commands up to `)`.
-fn group_items(script: &[u8], tape: &mut [u64], c: Cursor, mode: Mode, left: usize) -> Counted
+fn group_items(
+    script: &[u8],
+    tape: &mut [u64],
+    c: Cursor,
+    mode: Mode,
+    left: usize,
+    marks: &[u8],
+) -> Counted
     requires { ⌜ Room (now script) (now tape) c ⌝ }
+    requires { ⌜ Marked mode (now script) (now marks) ⌝ }
     ensures { λ r. ⌜ Reads (repeat-till (rule.command mode left) (word ")")) (now (script .entry)) (now (tape .entry)) c (counted r) (now (tape .exit)) ⌝ }
 {
     let mut at = c;
@@ -281,7 +323,7 @@ fn group_items(script: &[u8], tape: &mut [u64], c: Cursor, mode: Mode, left: usi
             }
             Read::Fail => {}
         }
-        let one = command(script, tape, at, mode, left);
+        let one = command(script, tape, at, mode, left, marks);
         let Step::Got(e) = one else {
             return one.counted(0);
         };
@@ -293,8 +335,16 @@ fn group_items(script: &[u8], tape: &mut [u64], c: Cursor, mode: Mode, left: usi
 }
 
 // The commands of a bracket, one level deeper.
-fn group(script: &[u8], tape: &mut [u64], c: Cursor, mode: Mode, left: usize) -> Counted
+fn group(
+    script: &[u8],
+    tape: &mut [u64],
+    c: Cursor,
+    mode: Mode,
+    left: usize,
+    marks: &[u8],
+) -> Counted
     requires { ⌜ Room (now script) (now tape) c ⌝ }
+    requires { ⌜ Marked mode (now script) (now marks) ⌝ }
     ensures { λ r. ⌜ Reads (rule.group mode left) (now (script .entry)) (now (tape .entry)) c (counted r) (now (tape .exit)) ⌝ }
 {
     if left == 0 {
@@ -304,5 +354,5 @@ fn group(script: &[u8], tape: &mut [u64], c: Cursor, mode: Mode, left: usize) ->
     let Read::Got(d) = skipped else {
         return Counted::Fail;
     };
-    group_items(script, tape, d, mode, left - 1)
+    group_items(script, tape, d, mode, left - 1, marks)
 }

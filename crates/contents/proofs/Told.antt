@@ -18,7 +18,8 @@ use Rattle.rules.proofs.Text.{run-begins}
 use Rattle.rules.proofs.Rule.{not-fail, came}
 use Rattle.rules.proofs.Blind.{nothing}
 use Rattle.rules.proofs.Pays.{Fine, _with-it_, _before_, _or-it_, either, gives, places, peeks, passed}
-use Rattle.rules.proofs.Commands.{matcher-pays, constructors-pays, contents-provide-pays, contents-assert-pays, assignment-pays}
+use Rattle.rules.proofs.Bytes.{opt-tag-skip-pays}
+use Rattle.rules.proofs.Commands.{matcher-pattern-pays, matcher-pays, constructors-pays, contents-provide-pays, contents-assert-pays, assignment-pays}
 use Rattle.lex.specs.Contract.{Went, went, lost, sunk, Lexes}
 use Rattle.lex.specs.declared.Cursor.{Cursor}
 use Rattle.tape.specs.Contract.{Run, Reads, stepped, valued}
@@ -27,19 +28,29 @@ use Rattle.tape.specs.declared.Step.the-variants as step
 use Rattle.tape.proofs.Step.{the-type}
 use Rattle.tape.proofs.Runs.{runs, first-run, sunk-run}
 use Rattle.tape.proofs.Way.{Walk, ends-here}
-use Rattle.contents.specs.Item.{token-end, last-try, untold, told-command, contents-item}
+use Rattle.contents.specs.Item.{token-end, bare-matcher, last-try, untold, last-tries, bare-tries, told-command, contents-item}
 
 -- PAYMENT
 pub last-try-pays : Fine last-try
 unfolding last-try token-end
 last-try-pays f i = record { fair = λ s p h a b. passed f i s p p i h a b (omega arith) (omega arith) b } with-it (λ n. constructors-pays f i before gives n)
 
+pub bare-matcher-pays : Fine bare-matcher
+unfolding bare-matcher
+bare-matcher-pays f i = matcher-pattern-pays 0 f i before opt-tag-skip-pays _ f i
+
 module _ {e : Rule (Unit {0})} (y : Fine e) where
+  pub last-tries-pays : Fine (last-tries e)
+  last-tries-pays f i = (assignment-pays y f i before gives 0) or-it last-try-pays f i
+
+  pub bare-tries-pays : Fine (bare-tries e)
+  bare-tries-pays f i = (bare-matcher-pays f i before gives 0) or-it last-tries-pays f i
+
   pub told-command-pays : Fine (told-command e)
   unfolding told-command
   told-command-pays f i =
       (contents-provide-pays y f i before gives 0) or-it ((contents-assert-pays y f i before gives 0) or-it ((matcher-pays f i before gives 0)
-      or-it ((assignment-pays y f i before gives 0) or-it last-try-pays f i)))
+      or-it last-tries-pays f i))
 
   pub contents-item-pays : (alone : ℕ) → Fine (contents-item e alone)
   unfolding contents-item

@@ -5,8 +5,8 @@ use lib.Dec.{ltb}
 use lib.ListN.{drop}
 use Rattle.rules.specs.Text.{run}
 use Rattle.rules.specs.Rule.{Rule, got, at-once, give, _>>=_, _>>_, if_then_else_, _or-else_, here, starts}
-use Rattle.rules.specs.Bytes.{is-plain}
-use Rattle.rules.specs.Contents.{matcher, constructors, contents-provide, contents-assert, assignment}
+use Rattle.rules.specs.Bytes.{is-plain, opt-word-skip}
+use Rattle.rules.specs.Contents.{matcher-pattern, matcher, constructors, contents-provide, contents-assert, assignment}
 
 -- where the bytes of a token that stand here end; they are not read
 unfoldable pub token-end : Rule ℕ
@@ -19,16 +19,29 @@ last-try = do
   constructors
   give n
 
+-- a matcher without KEEP
+unfoldable pub bare-matcher : Rule (Unit {0})
+bare-matcher = do
+  matcher-pattern 0
+  opt-word-skip ";"
+
 -- a try with which no place is told: 0
 abbrev pub untold : Rule (Unit {0}) → Rule ℕ
 untold m = m >> give 0
 
 module _ (expression : Rule (Unit {0})) where
+  -- the last two of the tries; those that are left where PROVIDE, ASSERT and KEEP fail
+  abbrev pub last-tries : Rule ℕ
+  last-tries = untold (assignment expression) or-else last-try
+
+  abbrev pub bare-tries : Rule ℕ
+  bare-tries = untold bare-matcher or-else last-tries
+
   -- the five tries in 000's order
   unfoldable pub told-command : Rule ℕ
   told-command =
       untold (contents-provide expression) or-else (untold (contents-assert expression) or-else (untold matcher
-      or-else (untold (assignment expression) or-else last-try)))
+      or-else last-tries))
 
   -- CONSTRUCTORS before the place that was told, with that place again; otherwise the tries
   unfoldable pub contents-item : (alone : ℕ) → Rule ℕ

@@ -3,6 +3,7 @@ ghost use Prim.Native.Nat.{_≤_};
 ghost use Rattle.rules.specs.Rule.{_or-else_, repeat-till, word};
 ghost use Rattle.rules.specs.Expressions.{expression};
 ghost use Rattle.rules.specs.Contents as rule;
+ghost use Rattle.foresight.specs.Marks.{Marked};
 ghost use Rattle.tape.specs.Contract.{Room, Reads, stepped, counted};
 ghost use Rattle.contents.specs.Item as own;
 use lex::Cursor;
@@ -190,6 +191,22 @@ fn matcher(script: &[u8], tape: &mut [u64], c: Cursor) -> Step
     Step::Got(e)
 }
 
+// A matcher without KEEP, and its `;`, which may be missing.
+fn bare_matcher(script: &[u8], tape: &mut [u64], c: Cursor) -> Step
+    requires { ⌜ Room (now script) (now tape) c ⌝ }
+    ensures { λ r. ⌜ Reads own.bare-matcher (now (script .entry)) (now (tape .entry)) c (stepped r) (now (tape .exit)) ⌝ }
+{
+    let found = matcher_pattern(script, tape, c, 0);
+    let Step::Got(d) = found else {
+        return found;
+    };
+    let ended = d.opt_word_skip(script, b";");
+    let Read::Got(e) = ended else {
+        return Step::Fail;
+    };
+    Step::Got(e)
+}
+
 // CONSTRUCTORS.
 fn constructors(script: &[u8], tape: &mut [u64], c: Cursor) -> Step
     requires { ⌜ Room (now script) (now tape) c ⌝ }
@@ -285,11 +302,65 @@ fn last_try(script: &[u8], tape: &mut [u64], c: Cursor) -> Counted
     made.counted(d.at)
 }
 
-// One item of a section's contents: the tries in 000's order. The number is up to where CONSTRUCTORS alone is read.
-fn contents_command(script: &[u8], tape: &mut [u64], c: Cursor, mode: Mode, left: usize) -> Counted
+// The last two tries: an assignment, unless it is known to be in vain, and CONSTRUCTORS.
+fn last_tries(
+    script: &[u8],
+    tape: &mut [u64],
+    c: Cursor,
+    mode: Mode,
+    left: usize,
+    marks: &[u8],
+) -> Counted
     requires { ⌜ Room (now script) (now tape) c ⌝ }
+    requires { ⌜ Marked mode (now script) (now marks) ⌝ }
+    ensures { λ r. ⌜ Reads (own.last-tries (expression mode left)) (now (script .entry)) (now (tape .entry)) c (counted r) (now (tape .exit)) ⌝ }
+{
+    if foresight::in_vain(marks, 2 * c.at + 1, left) {
+        return last_try(script, tape, c);
+    }
+    let set = assignment(script, tape, c, mode, left);
+    let Step::Fail = set else {
+        return set.counted(0);
+    };
+    last_try(script, tape, c)
+}
+
+// The tries where PROVIDE, ASSERT and KEEP are known to be in vain.
+fn bare_tries(
+    script: &[u8],
+    tape: &mut [u64],
+    c: Cursor,
+    mode: Mode,
+    left: usize,
+    marks: &[u8],
+) -> Counted
+    requires { ⌜ Room (now script) (now tape) c ⌝ }
+    requires { ⌜ Marked mode (now script) (now marks) ⌝ }
+    ensures { λ r. ⌜ Reads (own.bare-tries (expression mode left)) (now (script .entry)) (now (tape .entry)) c (counted r) (now (tape .exit)) ⌝ }
+{
+    let matched = bare_matcher(script, tape, c);
+    let Step::Fail = matched else {
+        return matched.counted(0);
+    };
+    last_tries(script, tape, c, mode, left, marks)
+}
+
+// One item of a section's contents: the tries in 000's order. The number is up to where CONSTRUCTORS alone is read.
+fn contents_command(
+    script: &[u8],
+    tape: &mut [u64],
+    c: Cursor,
+    mode: Mode,
+    left: usize,
+    marks: &[u8],
+) -> Counted
+    requires { ⌜ Room (now script) (now tape) c ⌝ }
+    requires { ⌜ Marked mode (now script) (now marks) ⌝ }
     ensures { λ r. ⌜ Reads (own.told-command (expression mode left)) (now (script .entry)) (now (tape .entry)) c (counted r) (now (tape .exit)) ⌝ }
 {
+    if foresight::in_vain(marks, 2 * c.at, left) {
+        return bare_tries(script, tape, c, mode, left, marks);
+    }
     let provided = contents_provide(script, tape, c, mode, left);
     let Step::Fail = provided else {
         return provided.counted(0);
@@ -302,11 +373,7 @@ fn contents_command(script: &[u8], tape: &mut [u64], c: Cursor, mode: Mode, left
     let Step::Fail = matched else {
         return matched.counted(0);
     };
-    let set = assignment(script, tape, c, mode, left);
-    let Step::Fail = set else {
-        return set.counted(0);
-    };
-    last_try(script, tape, c)
+    last_tries(script, tape, c, mode, left, marks)
 }
 
 // The same, where up to a place CONSTRUCTORS alone is known to be read: a token of many is not read again for each.
@@ -317,8 +384,10 @@ pub fn contents_item(
     mode: Mode,
     left: usize,
     alone: usize,
+    marks: &[u8],
 ) -> Counted
     requires { ⌜ Room (now script) (now tape) c ⌝ }
+    requires { ⌜ Marked mode (now script) (now marks) ⌝ }
     ensures { λ r. ⌜ Reads (own.contents-item (expression mode left) alone) (now (script .entry)) (now (tape .entry)) c (counted r) (now (tape .exit)) ⌝ }
 {
     if c.at < alone {
@@ -327,5 +396,5 @@ pub fn contents_item(
             return again.counted(alone);
         }
     }
-    contents_command(script, tape, c, mode, left)
+    contents_command(script, tape, c, mode, left, marks)
 }

@@ -32,7 +32,7 @@ pub fn close(script: &[u8], tape: &mut [u64], c: Cursor, kind: u64, a: u64, b: u
 }
 
 // A name in brackets.
-fn function_argument(script: &[u8], c: Cursor) -> Taken
+pub fn function_argument(script: &[u8], c: Cursor) -> Taken
     ensures { λ r. ⌜ Lexes function-arg (now (script .entry)) c (taken r) ⌝ }
 {
     let opened = c.word(script, b"(");

@@ -21,7 +21,7 @@ use Rattle.rules.proofs.Independent.{_then-blind_, skip-blind, signed-b
 use Rattle.rules.proofs.Like.{Like, blind-like, _then-like_, _or-like_, add-adds, if-adds, adds-like, keyword-like, fails-like}
 
 -- WHAT FOLLOWS A NAME, alike for every name
-pattern-blind : Blind pattern
+pub pattern-blind : Blind pattern
 unfolding pattern sort sorted-pattern plain-pattern pattern-name skip-tag skip-tag-skip
 pattern-blind =
     opt-blind (signed-blind _ _ or-blind two-blind _ _ _ _) seen-by (λ sorted. perhaps-blind sorted

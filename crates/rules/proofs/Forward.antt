@@ -23,7 +23,7 @@ module _ {deeper : Deeper} (x : Sound deeper) where
       later-ahead multispace0-pays (λ _. or-ahead (earn-ahead (λ f i. earns _ (omega arith)) (λ _ f i. weaker (x .expressions f (suc i) before over _)))
       (or-ahead (earn-ahead number-pays (λ n f i. costs _ _ _ _ _)) name-ahead))
 
-  unary-ahead : Ahead (unary deeper)
+  pub unary-ahead : Ahead (unary deeper)
   unfolding unary
   unary-ahead = later-ahead multispace0-pays (λ _. opt-ahead prefix-pays (λ kind f i. x .unaries f (suc i) before costs _ _ _ _ _) primary-ahead)
 

@@ -18,7 +18,7 @@ pub _then-blind_ : {A B : Type 0} {m : Rule A} {n : Rule B} → Blind m → Blin
 x then-blind y = x seen-by (λ _. y)
 
 -- BYTES AND NUMBERS
-blanks : Blind multispace0
+pub blanks : Blind multispace0
 unfolding multispace0
 blanks = pass-while-blind _
 
@@ -76,7 +76,7 @@ comparison-blind : Blind comparison
 unfolding comparison
 comparison-blind = two-blind _ _ _ _ or-blind (two-blind _ _ _ _ or-blind two-blind _ _ _ _)
 
-operator-blind : (row : Row) → Blind (operator row)
+pub operator-blind : (row : Row) → Blind (operator row)
 operator-blind LogicalOr = signed-blind _ _
 operator-blind LogicalAnd = signed-blind _ _
 operator-blind Comparison = comparison-blind
@@ -88,7 +88,7 @@ operator-blind Shift = two-blind _ _ _ _
 operator-blind Additive = two-blind _ _ _ _
 operator-blind Multiplicative = signed-blind _ _ or-blind two-blind _ _ _ _
 
-chain-blind : {op : Rule ℕ} {operand : Rule (Unit {0})} → Blind op → Blind operand → (n : ℕ) → Blind (chain op operand n)
+pub chain-blind : {op : Rule ℕ} {operand : Rule (Unit {0})} → Blind op → Blind operand → (n : ℕ) → Blind (chain op operand n)
 unfolding chain
 chain-blind x y zero = give-blind _
 chain-blind x y (suc n) =
@@ -171,7 +171,7 @@ module _ {deeper : Deeper} (x : Unseeing deeper) where
       (blanks then-blind x .expressions then-blind blanks then-blind tag-blind _ then-blind blanks then-blind x .expressions
       then-blind add-blind _ _ _ _ _ then-blind blanks) (give-blind _))
 
-levels-unseeing : (mode : Mode) (n : ℕ) → Unseeing (levels mode n)
+pub levels-unseeing : (mode : Mode) (n : ℕ) → Unseeing (levels mode n)
 unfolding levels
 levels-unseeing mode zero = record { expressions = deep-blind; unaries = deep-blind }
 levels-unseeing mode (suc n) = record { expressions = ternary-blind (levels-unseeing mode n) mode; unaries = unary-blind (levels-unseeing mode n) }

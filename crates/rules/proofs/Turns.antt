@@ -1,5 +1,5 @@
 -- THE COUNT OF TURNS NEVER DECIDES: a turn that goes on has read a byte, so a rule with a turn for each byte that is left, and one more, answers as with
--- any number more. Each is started with one for each byte of the script, and one more.
+-- any number more. Each is started with one for each byte of the script, and one more; a row with one for each byte, where its first operand has read one.
 use mathlib.Core.Path.{_≡_, refl, subst}
 use Prim.Native.Nat.{ℕ, zero, suc, _+_, _≤_, _<_}
 use native.Mathlib.Omega.{arith}

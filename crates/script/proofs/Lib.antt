@@ -2,5 +2,6 @@
 mod Last
 mod Whole
 mod Answered
+mod Lent
 pub mod Demands
 pub mod Sheets

@@ -7,6 +7,7 @@ ghost use lib.ListN.{length, take, replicate};
 ghost use Rattle.rules.specs.Text.{part-of};
 ghost use Rattle.rules.specs.Rule.{holds};
 ghost use Rattle.rules.specs.Script as rule;
+ghost use Rattle.foresight.specs.Marks.{Marked};
 ghost use Rattle.tape.specs.Contract.{Reads};
 ghost use Rattle.script.specs.Answers.{outcome, Placed, beginning, Settling, settled as settled-answer, stays};
 ghost use Rattle.script.specs.Call as call;
@@ -63,9 +64,10 @@ fn noted(tape: &[u64], so_far: Report, count: usize) -> Report
 }
 
 // The commands of a script, from nothing held on.
-fn commands(script: &[u8], tape: &mut [u64], mode: Mode) -> Outcome
+fn commands(script: &[u8], tape: &mut [u64], mode: Mode, marks: &[u8]) -> Outcome
     requires { ⌜ length (now script) ≤ 65536 ⌝ }
     requires { ⌜ 5 * length (now script) ≤ length (now tape) ⌝ }
+    requires { ⌜ Marked mode (now script) (now marks) ⌝ }
     ensures { λ r. ⌜ Reads (rule.commands mode) (now (script .entry)) (now (tape .entry)) beginning (outcome r) (now (tape .exit)) ⌝ }
     ensures { λ r. ⌜ Placed mode (now (script .entry)) r ⌝ }
 {
@@ -85,7 +87,7 @@ fn commands(script: &[u8], tape: &mut [u64], mode: Mode) -> Outcome
         if script.len() <= at.at {
             return Outcome::Read(so_far, at);
         }
-        let one = command(script, tape, at, mode, 100);
+        let one = command(script, tape, at, mode, 100, marks);
         match one {
             Step::Got(e) => {
                 at = e;
@@ -101,6 +103,31 @@ fn commands(script: &[u8], tape: &mut [u64], mode: Mode) -> Outcome
         turns -= 1;
     }
     Outcome::NotRead(at.at)
+}
+
+// The same, where what is tried in vain is marked first; the tape is lent for that.
+fn marked_commands(script: &[u8], tape: &mut [u64], mode: Mode) -> Outcome
+    requires { ⌜ length (now script) ≤ 65536 ⌝ }
+    requires { ⌜ 5 * length (now script) ≤ length (now tape) ⌝ }
+    ensures { λ r. ⌜ Reads (rule.commands mode) (now (script .entry)) (now (tape .entry)) beginning (outcome r) (now (tape .exit)) ⌝ }
+    ensures { λ r. ⌜ Placed mode (now (script .entry)) r ⌝ }
+{
+    let mut marks = [0; 131074];
+    foresight::items::foresee(script, tape, &mut marks, mode);
+    commands(script, tape, mode, &marks)
+}
+
+// The commands of a script, with marks where they are worth their cost.
+fn all_commands(script: &[u8], tape: &mut [u64], mode: Mode) -> Outcome
+    requires { ⌜ length (now script) ≤ 65536 ⌝ }
+    requires { ⌜ 5 * length (now script) ≤ length (now tape) ⌝ }
+    ensures { λ r. ⌜ Reads (rule.commands mode) (now (script .entry)) (now (tape .entry)) beginning (outcome r) (now (tape .exit)) ⌝ }
+    ensures { λ r. ⌜ Placed mode (now (script .entry)) r ⌝ }
+{
+    if foresight::worth::many(script) {
+        return marked_commands(script, tape, mode);
+    }
+    commands(script, tape, mode, b"")
 }
 
 // What a call answers. What each says, by 01's numbers, is in specs/Call.antt.
@@ -158,7 +185,7 @@ pub fn read(mode: u64, script: &[u8], tape: &mut [u64]) -> Answer
     if tape.len() < 5 * script.len() {
         return Answer::TapeTooShort;
     }
-    let done = commands(script, tape, mode_of(mode));
+    let done = all_commands(script, tape, mode_of(mode));
     settled(tape, done)
 }
 

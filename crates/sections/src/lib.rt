@@ -6,6 +6,7 @@ ghost use Rattle.rules.specs.Expressions.{expression};
 ghost use Rattle.rules.specs.Contents.{contents-command};
 ghost use Rattle.rules.specs.Sections as rule;
 ghost use Rattle.lex.specs.Contract.{Lexes};
+ghost use Rattle.foresight.specs.Marks.{Marked};
 ghost use Rattle.operators.specs.Answers.{operated};
 ghost use Rattle.tape.specs.Contract.{Room, Reads, Run, Runs, valued, stepped, counted};
 ghost use Rattle.sections.specs.Answers.{headed as headed-went};
@@ -308,8 +309,16 @@ fn endings(script: &[u8], tape: &mut [u64], c: Cursor, mode: Mode, left: usize) 
 }
 
 // The contents up to `}`.
-fn contents(script: &[u8], tape: &mut [u64], c: Cursor, mode: Mode, left: usize) -> Counted
+fn contents(
+    script: &[u8],
+    tape: &mut [u64],
+    c: Cursor,
+    mode: Mode,
+    left: usize,
+    marks: &[u8],
+) -> Counted
     requires { ⌜ Room (now script) (now tape) c ⌝ }
+    requires { ⌜ Marked mode (now script) (now marks) ⌝ }
     ensures { λ r. ⌜ Reads (repeat-till (contents-command (expression mode left)) (word "}")) (now (script .entry)) (now (tape .entry)) c (counted r) (now (tape .exit)) ⌝ }
 {
     let mut at = c;
@@ -324,7 +333,7 @@ fn contents(script: &[u8], tape: &mut [u64], c: Cursor, mode: Mode, left: usize)
             }
             Read::Fail => {}
         }
-        let item = contents::contents_item(script, tape, at, mode, left, alone);
+        let item = contents::contents_item(script, tape, at, mode, left, alone, marks);
         let Counted::Got(n, e) = item else {
             return item;
         };
@@ -390,16 +399,18 @@ fn section_body(
     name: Token,
     head: Heading,
     before: usize,
+    marks: &[u8],
 ) -> Step
     requires { ⌜ Room (now script) (now tape) c ⌝ }
     requires { ⌜ c .count + 1 ≤ c .at ⌝ }
+    requires { ⌜ Marked mode (now script) (now marks) ⌝ }
     ensures { λ r. ⌜ Run (rule.section-body (expression mode left) name head «before») (now (script .entry)) (now (tape .entry)) c (stepped r) (now (tape .exit)) ⌝ }
 {
     let opened = c.word_skip(script, b"{");
     let Read::Got(d) = opened else {
         return Step::Fail;
     };
-    let list = contents(script, tape, d, mode, left);
+    let list = contents(script, tape, d, mode, left, marks);
     let Counted::Got(n, e) = list else {
         return list.step();
     };
@@ -411,9 +422,18 @@ fn section_body(
 }
 
 // An output section, after its name.
-fn section(script: &[u8], tape: &mut [u64], c: Cursor, mode: Mode, left: usize, name: Token) -> Step
+fn section(
+    script: &[u8],
+    tape: &mut [u64],
+    c: Cursor,
+    mode: Mode,
+    left: usize,
+    name: Token,
+    marks: &[u8],
+) -> Step
     requires { ⌜ Room (now script) (now tape) c ⌝ }
     requires { ⌜ c .count + 1 ≤ c .at ⌝ }
+    requires { ⌜ Marked mode (now script) (now marks) ⌝ }
     ensures { λ r. ⌜ Run (rule.section (expression mode left) name) (now (script .entry)) (now (tape .entry)) c (stepped r) (now (tape .exit)) ⌝ }
 {
     let head = heading(script, tape, c, mode, left);
@@ -428,7 +448,7 @@ fn section(script: &[u8], tape: &mut [u64], c: Cursor, mode: Mode, left: usize, 
     let Counted::Got(n, f) = list else {
         return list.step();
     };
-    section_body(script, tape, f, mode, left, name, h, n)
+    section_body(script, tape, f, mode, left, name, h, n, marks)
 }
 
 // An assignment after its sign, with the `;` that it needs here.
@@ -466,21 +486,31 @@ fn section_or_assignment(
     left: usize,
     name: Token,
     dot: bool,
+    marks: &[u8],
 ) -> Step
     requires { ⌜ Room (now script) (now tape) c ⌝ }
     requires { ⌜ c .count + 1 ≤ c .at ⌝ }
+    requires { ⌜ Marked mode (now script) (now marks) ⌝ }
     ensures { λ r. ⌜ Run (rule.section-or-assignment (expression mode left) name dot) (now (script .entry)) (now (tape .entry)) c (stepped r) (now (tape .exit)) ⌝ }
 {
     let sign = assignments::assignment_op(script, tape, c, name, dot);
     let Operated::Got(op, d) = sign else {
-        return section(script, tape, c, mode, left, name);
+        return section(script, tape, c, mode, left, name, marks);
     };
     section_assignment(script, tape, d, mode, left, name, dot, op)
 }
 
 // One item of SECTIONS.
-pub fn section_command(script: &[u8], tape: &mut [u64], c: Cursor, mode: Mode, left: usize) -> Step
+pub fn section_command(
+    script: &[u8],
+    tape: &mut [u64],
+    c: Cursor,
+    mode: Mode,
+    left: usize,
+    marks: &[u8],
+) -> Step
     requires { ⌜ Room (now script) (now tape) c ⌝ }
+    requires { ⌜ Marked mode (now script) (now marks) ⌝ }
     ensures { λ r. ⌜ Reads (rule.section-command (expression mode left)) (now (script .entry)) (now (tape .entry)) c (stepped r) (now (tape .exit)) ⌝ }
 {
     let name = c.token(script);
@@ -496,6 +526,6 @@ pub fn section_command(script: &[u8], tape: &mut [u64], c: Cursor, mode: Mode, l
         keywords::ASSERT => assignments::asserted(script, tape, e, mode, left),
         keywords::PROVIDE => assignments::provide(script, tape, e, mode, left, 0),
         keywords::PROVIDE_HIDDEN => assignments::provide(script, tape, e, mode, left, 1),
-        _ => section_or_assignment(script, tape, e, mode, left, t, k == keywords::DOT),
+        _ => section_or_assignment(script, tape, e, mode, left, t, k == keywords::DOT, marks),
     }
 }

@@ -19,11 +19,11 @@ use Rattle.commands.proofs.braced.Statement.{statement}
 use Rattle.commands.proofs.braced.Tie as tie
 
 abbrev at-entry : (c : tie.Start) → Way (rule.braced (expression (c .args .mode) (c .args .left)) (c .args .which)) (c .args .script .now) (c .args .tape .now) (c .args .c) 0 (c .args .tape .now) (c .args .c)
-at-entry c = enter (braced-pays (expression-pays _ _) (c .args .which)) (c .pre)
+at-entry c = enter (braced-pays (expression-pays _ _) (c .args .which)) (c .pre .0)
 
-abbrev at-opened : (c : tie.After-opened) → On (at-entry (c .before .before .before .before .before .before)) 1 (c .before .before .before .before .before .before .args .tape .now) (c .opened .given .0 .0)
+abbrev at-opened : (c : tie.After-opened) → On (at-entry (c .before .before .before .before .before .before .before)) 1 (c .before .before .before .before .before .before .before .args .tape .now) (c .opened .given .0 .0)
 unfolding rule.braced
-at-opened c = earning _ (tag-skip-earns (ascii "{") (omega arith)) (at-entry (c .before .before .before .before .before .before)) refl (known read (c .before .before .word-skip .ensures) (c .opened .given .1))
+at-opened c = earning _ (tag-skip-earns (ascii "{") (omega arith)) (at-entry (c .before .before .before .before .before .before .before)) refl (known read (c .before .before .word-skip .ensures) (c .opened .given .1))
 
 abbrev at-list : (c : tie.After-list) → On (at-opened (c .before .before .before .before .before .before .before)) 1 (c .before .before .before .before .items .last .1 .0) (c .list .given .0 .1 .0)
 unfolding rule.braced
@@ -46,8 +46,8 @@ braced-spec =
     (λ c κs. search needs)
     (λ c. search needs)
     (λ c. search needs)
-    (λ c. lost-here _ (at-entry (c .before .before .before .before .before .before)) refl (known read (c .before .before .word-skip .ensures) (c .enum-told .given .1)))
-    (λ c κs. (at-opened (c .before .before)) .room)
+    (λ c. lost-here _ (at-entry (c .before .before .before .before .before .before .before)) refl (known read (c .before .before .word-skip .ensures) (c .enum-told .given .1)))
+    (λ c κs. ((at-opened (c .before .before)) .room, c .before .before .before .before .before .before .before .before .before .pre .1))
     (λ c. search needs)
     (λ c κs. search needs)
     (λ c. c .before .before .before .before .items .kept .1 .0 ∙ (at-opened (c .before .before .before .before .before .before .before)) .size)

@@ -15,7 +15,7 @@ use Rattle.contents.proofs.contents_item.Tie as tie
 
 abbrev at-test : (c : tie.Start) → Way (contents-item (expression (c .args .mode) (c .args .left)) (c .args .alone)) (c .args .script .now) (c .args .tape .now) (c .args .c) 0 (c .args .tape .now) (c .args .c)
 unfolding contents-item
-at-test c = bytes _ (bytes _ (enter (contents-item-pays (expression-pays _ _) _) (c .pre)) refl here-at) refl (asked _ refl)
+at-test c = bytes _ (bytes _ (enter (contents-item-pays (expression-pays _ _) _) (c .pre .0)) refl here-at) refl (asked _ refl)
 
 pub contents-item-spec : {M : Type 1} → statement M
 unfolding contents-item
@@ -24,10 +24,10 @@ contents-item-spec =
     (tie.spec
     (λ c. search needs)
     (λ c κs. search needs)
-    (λ c κs. c .before .before .before .before .before .before .before .before .pre)
+    (λ c κs. c .before .before .before .before .before .before .before .before .before .pre .0)
     (λ c κs. search needs)
     (λ c. c .before .before .before .constructors .kept .1 .0)
-    (λ c. ends-here (where-so (at-test (c .before .before .before .before .before .before .before .before .before .before .before .before)) _ _ refl (rw (lt-ltb _ _ (c .before .before .before .before .before .before .before .before .if1 .taken)) (sym (c .before .before .before .before .before .before .starts .ensures) ∙ c .before .before .before .before .before .if2 .taken))) (runs (told _ (c .counted .ensures) (c .before .before .before .constructors .ensures))))
-    (λ c κs. c .before .before .before .before .before .pre)
+    (λ c. ends-here (where-so (at-test (c .before .before .before .before .before .before .before .before .before .before .before .before .before)) _ _ refl (rw (lt-ltb _ _ (c .before .before .before .before .before .before .before .before .if1 .taken)) (sym (c .before .before .before .before .before .before .starts .ensures) ∙ c .before .before .before .before .before .if2 .taken))) (runs (told _ (c .counted .ensures) (c .before .before .before .constructors .ensures))))
+    (λ c κs. c .before .before .before .before .before .before .pre)
     (λ c. c .before .before .contents-command .kept .1 .0)
-    (λ c. ends-here (where-not (at-test (c .before .before .before .before .before .before .before .before)) _ _ refl (elim (c .before .before .before .before .if1 .came) [ inl x ↦ rw (lt-ltb _ _ (x .0 .taken)) (sym (x .2 .ensures) ∙ x .3 .left) | inr x ↦ rw (le-ltb _ _ (x .left)) ])) (runs (c .before .before .contents-command .ensures))))
+    (λ c. ends-here (where-not (at-test (c .before .before .before .before .before .before .before .before .before)) _ _ refl (elim (c .before .before .before .before .if1 .came) [ inl x ↦ rw (lt-ltb _ _ (x .0 .taken)) (sym (x .2 .ensures) ∙ x .3 .left) | inr x ↦ rw (le-ltb _ _ (x .left)) ])) (runs (c .before .before .contents-command .ensures))))

@@ -11,10 +11,10 @@ use Rattle.script.proofs.commands.Statement.{statement}
 use Rattle.script.proofs.commands.Tie as tie
 
 abbrev Inv-loop : tie.InvT-loop
-Inv-loop script tape₀ mode at₀ so-far₀ turns₀ tape at so-far turns = Whole mode script tape₀ turns so-far tape at
+Inv-loop script tape₀ mode marks at₀ so-far₀ turns₀ tape at so-far turns = Whole mode script tape₀ turns so-far tape at
 
 abbrev μ-loop : tie.MeasureT-loop
-μ-loop script tape₀ mode at₀ so-far₀ turns₀ tape at so-far turns = turns
+μ-loop script tape₀ mode marks at₀ so-far₀ turns₀ tape at so-far turns = turns
 
 -- the turn that a point behind its call is in
 abbrev turn-of : (c : tie.After-noted-arg Inv-loop μ-loop) → tie.In-loop Inv-loop μ-loop
@@ -29,12 +29,12 @@ commands-spec =
     (λ c κs. search needs)
     (λ c. search needs)
     (λ c. search needs)
-    (λ c. lost-opening _ _ _ (ready (c .before .before .before .before .before .pre .0) (c .before .before .before .before .before .pre .1)) (known read (c .before .before .skip .ensures) (c .enum-told .given .1)))
+    (λ c. lost-opening _ _ _ (ready (c .before .before .before .before .before .before .pre .0) (c .before .before .before .before .before .before .pre .1 .0)) (known read (c .before .before .skip .ensures) (c .enum-told .given .1)))
     (λ c. search needs)
-    (λ c. begun _ _ _ (ready (c .before .before .before .before .before .before .pre .0) (c .before .before .before .before .before .before .pre .1)) (known read (c .before .before .before .skip .ensures) (c .before .opening .given .1)))
+    (λ c. begun _ _ _ (ready (c .before .before .before .before .before .before .before .pre .0) (c .before .before .before .before .before .before .before .pre .1 .0)) (known read (c .before .before .before .skip .ensures) (c .before .opening .given .1)))
     (λ c. (c .before .before .before .loop .inv .loop .way) .size)
     (λ c. (ended _ _ _ (c .before .before .before .loop .inv) (c .before .before .loop-test .taken) (c .if1 .taken), tt))
-    (λ c κs. (c .before .before .before .before .loop .inv .loop .way) .room)
+    (λ c κs. ((c .before .before .before .before .loop .inv .loop .way) .room, c .before .before .before .before .before .before .before .before .before .before .before .before .pre .1 .1))
     (λ c. search needs)
     (λ c. search needs)
     (λ c. c .before .before .before .before .command .kept .1 .0 ∙ (c .before .before .before .before .before .before .before .before .before .loop .inv .loop .way) .size)

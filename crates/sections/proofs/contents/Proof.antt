@@ -33,17 +33,17 @@ as-before lost u = refl
 as-before sunk u = refl
 
 abbrev Inv-loop : tie.InvT-loop
-Inv-loop script tape₀ mode left at₀ alone₀ k₀ turns₀ mark tape at alone k turns = Loop (Reads (repeat-till (contents-command (expression mode left)) (word "}")) script tape₀ at₀) script (length tape₀) (at₀ .count) (repeating (contents-command (expression mode left)) (word "}") turns k) tape at × (k + turns ≡ length script + 1) × Alone (expression mode left) script (at .at) alone
+Inv-loop script tape₀ mode left marks at₀ alone₀ k₀ turns₀ mark tape at alone k turns = Loop (Reads (repeat-till (contents-command (expression mode left)) (word "}")) script tape₀ at₀) script (length tape₀) (at₀ .count) (repeating (contents-command (expression mode left)) (word "}") turns k) tape at × (k + turns ≡ length script + 1) × Alone (expression mode left) script (at .at) alone
 
 abbrev μ-loop : tie.MeasureT-loop
-μ-loop script tape₀ mode left at₀ alone₀ k₀ turns₀ mark tape at alone k turns = turns
+μ-loop script tape₀ mode left marks at₀ alone₀ k₀ turns₀ mark tape at alone k turns = turns
 
 abbrev at-entry : (c : tie.Start Inv-loop μ-loop) → Way (repeat-till (contents-command (expression (c .args .mode) (c .args .left))) (word "}")) (c .args .script .now) (c .args .tape .now) (c .args .c) 0 (c .args .tape .now) (c .args .c)
-at-entry c = enter (λ f i. repeats (contents-command-pays (expression-pays _ _) f i) (over _)) (c .pre)
+at-entry c = enter (λ f i. repeats (contents-command-pays (expression-pays _ _) f i) (over _)) (c .pre .0)
 
 abbrev at-turn : (c : tie.In-loop Inv-loop μ-loop) → Further (c .before .loop .inv .0 .way) (c .before .loop .at)
 unfolding repeat-till repeating if_then_else_
-at-turn c = turn (c .before .loop .inv .0 .way) (λ n. repeating (contents-command (expression (c .before .before .before .before .args .mode) (c .before .before .before .before .args .left))) (word "}") n (c .before .loop .k)) (c .before .loop .inv .0 .left) (c .loop-test .taken)
+at-turn c = turn (c .before .loop .inv .0 .way) (λ n. repeating (contents-command (expression (c .before .before .before .before .before .args .mode) (c .before .before .before .before .before .args .left))) (word "}") n (c .before .loop .k)) (c .before .loop .inv .0 .left) (c .loop-test .taken)
 
 abbrev at-end : (c : tie.After-end Inv-loop μ-loop) → Further (at-turn (c .before .before .before .before)) (c .end .given .0 .0)
 unfolding repeat-till repeating if_then_else_
@@ -69,20 +69,20 @@ contents-spec =
     Inv-loop
     μ-loop
     (λ c. search needs)
-    (λ c. (record { way = bytes _ (at-entry (c .before .before)) refl sized; left = ap (λ n. repeating (contents-command (expression (c .before .before .args .mode) (c .before .before .args .left))) (word "}") n 0) (sym (add-one (length (c .before .before .args .script .now)))) }, omega arith, λ q l m. absurd (omega arith)))
+    (λ c. (record { way = bytes _ (at-entry (c .before .before .before)) refl sized; left = ap (λ n. repeating (contents-command (expression (c .before .before .before .args .mode) (c .before .before .before .args .left))) (word "}") n 0) (sym (add-one (length (c .before .before .before .args .script .now)))) }, omega arith, λ q l m. absurd (omega arith)))
     (λ c. search needs)
     (λ c κs. search needs)
     (λ c. search needs)
     (λ c. (at-end (c .before)) .size)
     (λ c. ends-here (at-end (c .before)) (as-bytes (given _)))
     (λ c. search needs)
-    (λ c κs. (at-enum-told (c .before)) .room)
+    (λ c κs. ((at-enum-told (c .before)) .room, c .before .before .before .before .before .before .before .before .before .before .pre .1))
     (λ c. search needs)
     (λ c. c .before .before .before .contents-item .kept .1 .0 ∙ (at-enum-told (c .before .before .before .before .before)) .size)
     (λ c. let item = c .before .before .before .contents-item in halts _ (at-enum-told (c .before .before .before .before .before)) refl (unread-too (counted (item .result)) (not-counted (item .result) (c .match2 .keys2))) (runs (item-reads (expression-blind _ _) _ _ (c .before .before .before .before .before .before .before .before .before .before .loop .inv .2) _ (item .ensures))) 0 (as-before (counted (item .result)) (not-counted (item .result) (c .match2 .keys2))))
     (λ c. record { fits = omega (arith, (turn-of (c .before)) .before .loop .inv .1, ((turn-of (c .before)) .before .loop .inv .0 .way) .room .short, (turn-of (c .before)) .loop-test .taken) })
     (λ c. omega (arith, (turn-of (c .before)) .loop-test .taken))
     (λ c. omega (arith, (turn-of (c .before)) .loop-test .taken))
-    (λ c. (record { way = (at-item (c .before)); left = ap (λ n. repeating (contents-command (expression ((turn-of (c .before)) .before .before .before .before .args .mode) ((turn-of (c .before)) .before .before .before .before .args .left))) (word "}") ((turn-of (c .before)) .before .loop .turns - 1) n) (sym (add-one ((turn-of (c .before)) .before .loop .k))) }, omega (arith, (turn-of (c .before)) .before .loop .inv .1, (turn-of (c .before)) .loop-test .taken), still-alone (expression-blind _ _) _ _ ((turn-of (c .before)) .before .loop .inv .2) (known-read counted (c .before .before .before .before .before .contents-item .ensures) (c .before .item .given .1))))
+    (λ c. (record { way = (at-item (c .before)); left = ap (λ n. repeating (contents-command (expression ((turn-of (c .before)) .before .before .before .before .before .args .mode) ((turn-of (c .before)) .before .before .before .before .before .args .left))) (word "}") ((turn-of (c .before)) .before .loop .turns - 1) n) (sym (add-one ((turn-of (c .before)) .before .loop .k))) }, omega (arith, (turn-of (c .before)) .before .loop .inv .1, (turn-of (c .before)) .loop-test .taken), still-alone (expression-blind _ _) _ _ ((turn-of (c .before)) .before .loop .inv .2) (known-read counted (c .before .before .before .before .before .contents-item .ensures) (c .before .item .given .1))))
     (λ c. (c .before .loop .inv .0 .way) .size)
-    (λ c. spent (c .before .loop .inv .0 .way) (λ n. repeating (contents-command (expression (c .before .before .before .before .args .mode) (c .before .before .before .before .args .left))) (word "}") n (c .before .loop .k)) (c .before .loop .inv .0 .left) (c .loop-test .left) (as-lost refused)))
+    (λ c. spent (c .before .loop .inv .0 .way) (λ n. repeating (contents-command (expression (c .before .before .before .before .before .args .mode) (c .before .before .before .before .before .args .left))) (word "}") n (c .before .loop .k)) (c .before .loop .inv .0 .left) (c .loop-test .left) (as-lost refused)))

@@ -15,11 +15,11 @@ use Rattle.sections.proofs.section.Statement.{statement}
 use Rattle.sections.proofs.section.Tie as tie
 
 abbrev at-entry : (c : tie.Start) → Short (rule.section (expression (c .args .mode) (c .args .left)) (c .args .name)) (c .args .script .now) (c .args .tape .now) (c .args .c) 1 (c .args .tape .now) (c .args .c)
-at-entry c = enter-short (c .pre .0) (c .pre .1)
+at-entry c = enter-short (c .pre .0) (c .pre .1 .0)
 
-abbrev at-head : (c : tie.After-head) → On (at-entry (c .before .before .before .before .before .before .before .before)) 1 (c .before .before .before .before .heading .last .1 .0) (c .head .given .0 .1 .0)
+abbrev at-head : (c : tie.After-head) → On (at-entry (c .before .before .before .before .before .before .before .before .before)) 1 (c .before .before .before .before .heading .last .1 .0) (c .head .given .0 .1 .0)
 unfolding rule.section
-at-head c = called _ (at-entry (c .before .before .before .before .before .before .before .before)) refl (known-read headed (c .before .before .before .before .heading .ensures) (c .head .given .1)) (c .before .before .before .before .heading .kept .1 .0)
+at-head c = called _ (at-entry (c .before .before .before .before .before .before .before .before .before)) refl (known-read headed (c .before .before .before .before .heading .ensures) (c .head .given .1)) (c .before .before .before .before .heading .kept .1 .0)
 
 abbrev at-colon : (c : tie.After-colon) → Further (at-head (c .before .before .before .before .before)) (c .colon .given .0 .0)
 unfolding rule.section
@@ -34,11 +34,11 @@ unfolding rule.section
 section-spec =
     tie.close
     (tie.spec
-    (λ c κs. (c .before .before .before .pre .0))
+    (λ c κs. (c .before .before .before .before .pre .0))
     (λ c. search needs)
     (λ c κs. search needs)
     (λ c. c .before .before .before .before .heading .kept .1 .0)
-    (λ c. halts _ (at-entry (c .before .before .before .before .before .before .before .before)) refl (not-headed (c .before .before .before .before .heading .result) (c .before .match .keys2)) (runs (c .before .before .before .before .heading .ensures)) _ (c .step .ensures))
+    (λ c. halts _ (at-entry (c .before .before .before .before .before .before .before .before .before)) refl (not-headed (c .before .before .before .before .heading .result) (c .before .match .keys2)) (runs (c .before .before .before .before .heading .ensures)) _ (c .step .ensures))
     (λ c. search needs)
     (λ c κs. search needs)
     (λ c. search needs)
@@ -50,6 +50,6 @@ section-spec =
     (λ c κs. search needs)
     (λ c. c .before .before .before .before .clauses .kept .1 .0 ∙ (at-colon (c .before .before .before .before .before .before .before)) .size)
     (λ c. halts _ (at-colon (c .before .before .before .before .before .before .before)) refl (not-counted (c .before .before .before .before .clauses .result) (c .before .match3 .keys2)) (runs (c .before .before .before .before .clauses .ensures)) _ (c .step2 .ensures))
-    (λ c κs. ((at-list (c .before .before)) .room, omega (arith, (at-list (c .before .before)) .spare)))
+    (λ c κs. ((at-list (c .before .before)) .room, (omega (arith, (at-list (c .before .before)) .spare), c .before .before .before .before .before .before .before .before .before .before .before .before .before .before .before .before .before .before .before .before .before .before .before .pre .1 .1)))
     (λ c. c .before .before .section-body .kept .1 .0 ∙ (at-list (c .before .before .before .before .before)) .size)
     (λ c. ends-here (at-list (c .before .before .before .before .before)) (c .before .before .section-body .ensures)))

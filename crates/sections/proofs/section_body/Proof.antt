@@ -15,11 +15,11 @@ use Rattle.sections.proofs.section_body.Statement.{statement}
 use Rattle.sections.proofs.section_body.Tie as tie
 
 abbrev at-entry : (c : tie.Start) → Short (rule.section-body (expression (c .args .mode) (c .args .left)) (c .args .name) (c .args .head) (c .args .before)) (c .args .script .now) (c .args .tape .now) (c .args .c) 1 (c .args .tape .now) (c .args .c)
-at-entry c = enter-short (c .pre .0) (c .pre .1)
+at-entry c = enter-short (c .pre .0) (c .pre .1 .0)
 
-abbrev at-opened : (c : tie.After-opened) → On (at-entry (c .before .before .before .before .before .before)) 2 (c .before .before .before .before .before .before .args .tape .now) (c .opened .given .0 .0)
+abbrev at-opened : (c : tie.After-opened) → On (at-entry (c .before .before .before .before .before .before .before)) 2 (c .before .before .before .before .before .before .before .args .tape .now) (c .opened .given .0 .0)
 unfolding rule.section-body
-at-opened c = earning _ (tag-skip-earns (ascii "{") (omega arith)) (at-entry (c .before .before .before .before .before .before)) refl (known read (c .before .before .word-skip .ensures) (c .opened .given .1))
+at-opened c = earning _ (tag-skip-earns (ascii "{") (omega arith)) (at-entry (c .before .before .before .before .before .before .before)) refl (known read (c .before .before .word-skip .ensures) (c .opened .given .1))
 
 abbrev at-list : (c : tie.After-list) → On (at-opened (c .before .before .before .before .before .before .before)) 2 (c .before .before .before .before .contents .last .1 .0) (c .list .given .0 .1 .0)
 unfolding rule.section-body
@@ -38,8 +38,8 @@ section-body-spec =
     (λ c κs. search needs)
     (λ c. search needs)
     (λ c. search needs)
-    (λ c. lost-here _ (at-entry (c .before .before .before .before .before .before)) refl (known read (c .before .before .word-skip .ensures) (c .enum-told .given .1)))
-    (λ c κs. (at-opened (c .before .before)) .room)
+    (λ c. lost-here _ (at-entry (c .before .before .before .before .before .before .before)) refl (known read (c .before .before .word-skip .ensures) (c .enum-told .given .1)))
+    (λ c κs. ((at-opened (c .before .before)) .room, c .before .before .before .before .before .before .before .before .before .pre .1 .1))
     (λ c. search needs)
     (λ c κs. search needs)
     (λ c. c .before .before .before .before .contents .kept .1 .0 ∙ (at-opened (c .before .before .before .before .before .before .before)) .size)

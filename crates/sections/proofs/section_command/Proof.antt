@@ -19,11 +19,11 @@ use Rattle.sections.proofs.section_command.Statement.{statement}
 use Rattle.sections.proofs.section_command.Tie as tie
 
 abbrev at-entry : (c : tie.Start) → Way (rule.section-command (expression (c .args .mode) (c .args .left))) (c .args .script .now) (c .args .tape .now) (c .args .c) 0 (c .args .tape .now) (c .args .c)
-at-entry c = enter (section-command-pays (expression-pays _ _)) (c .pre)
+at-entry c = enter (section-command-pays (expression-pays _ _)) (c .pre .0)
 
-abbrev at-name : (c : tie.After-name) → On (at-entry (c .before .before .before .before .before)) 1 (c .before .before .before .before .before .args .tape .now) (c .name .given .0 .1 .0)
+abbrev at-name : (c : tie.After-name) → On (at-entry (c .before .before .before .before .before .before)) 1 (c .before .before .before .before .before .before .args .tape .now) (c .name .given .0 .1 .0)
 unfolding rule.section-command
-at-name c = earning _ token-pays (at-entry (c .before .before .before .before .before)) refl (known taken (c .before .before .token .ensures) (c .name .given .1))
+at-name c = earning _ token-pays (at-entry (c .before .before .before .before .before .before)) refl (known taken (c .before .before .token .ensures) (c .name .given .1))
 
 abbrev at-skipped : (c : tie.After-skipped) → Further (at-name (c .before .before .before .before)) (c .skipped .given .0 .0)
 unfolding rule.section-command
@@ -41,7 +41,7 @@ section-command-spec =
     (λ c κs. search needs)
     (λ c. search needs)
     (λ c. search needs)
-    (λ c. lost-here _ (at-entry (c .before .before .before .before .before)) refl (known taken (c .before .before .token .ensures) (c .enum-told .given .1)))
+    (λ c. lost-here _ (at-entry (c .before .before .before .before .before .before)) refl (known taken (c .before .before .token .ensures) (c .enum-told .given .1)))
     (λ c κs. search needs)
     (λ c. search needs)
     (λ c. search needs)
@@ -50,7 +50,7 @@ section-command-spec =
     (λ c κs. (at-keyword-of (c .before .before)) .room)
     (λ c κs. (at-keyword-of (c .before .before)) .room)
     (λ c κs. (at-keyword-of (c .before .before)) .room)
-    (λ c κs. ((at-keyword-of (c .before .before)) .room, omega (arith, (at-keyword-of (c .before .before)) .spare)))
+    (λ c κs. ((at-keyword-of (c .before .before)) .room, (omega (arith, (at-keyword-of (c .before .before)) .spare), c .before .before .before .before .before .before .before .before .before .before .before .before .before .before .pre .1)))
     (λ c. c .before .before .asserted .kept .1 .0 ∙ (at-keyword-of (c .before .before .before .before .before)) .size)
     (λ c. ends-here (where-so (at-keyword-of (c .before .before .before .before .before)) _ _ refl (ap (λ n. n is "ASSERT") (c .before .before .before .before .match3 .keys1))) (runs (c .before .before .asserted .ensures)))
     (λ c. c .before .before .provide .kept .1 .0 ∙ (at-keyword-of (c .before .before .before .before .before)) .size)

@@ -27,11 +27,11 @@ callees t =
 
 module _ (t : ℕ) where
   abbrev at-entry : (c : lts.Start (callees t) (command-at t) command.Post) → Way (rule.command (c .args .mode) (c .args .left)) (c .args .script .now) (c .args .tape .now) (c .args .c) 0 (c .args .tape .now) (c .args .c)
-  at-entry c = enter (command-pays _ _) (c .pre .1)
+  at-entry c = enter (command-pays _ _) (c .pre .1 .0)
 
-  abbrev at-name : (c : lts.After-name (callees t) (command-at t) command.Post) → On (at-entry (c .before .before .before .before .before)) 1 (c .before .before .before .before .before .args .tape .now) (c .name .given .0 .1 .0)
+  abbrev at-name : (c : lts.After-name (callees t) (command-at t) command.Post) → On (at-entry (c .before .before .before .before .before .before)) 1 (c .before .before .before .before .before .before .args .tape .now) (c .name .given .0 .1 .0)
   unfolding rule.command rule.command-with
-  at-name c = earning _ token-pays (at-entry (c .before .before .before .before .before)) refl (known taken (c .before .before .token .ensures) (c .name .given .1))
+  at-name c = earning _ token-pays (at-entry (c .before .before .before .before .before .before)) refl (known taken (c .before .before .token .ensures) (c .name .given .1))
 
   abbrev at-before2 : (c : lts.After-before2 (callees t) (command-at t) command.Post) → Further (at-name (c .before .before .before .before)) (c .before2 .given .0 .0)
   unfolding rule.command rule.command-with
@@ -43,18 +43,18 @@ module _ (t : ℕ) where
 
   abbrev at-done : (c : lts.After-done (callees t) (command-at t) command.Post) → On (at-keyword-of (c .before .before .before .before .before .before)) 0 (c .before .before .before .before .commanded .last .1 .0) (c .done .given .0 .0)
   unfolding rule.command rule.command-with
-  at-done c = spending _ (commanded-costs (expression-pays _ _) (group-pays (c .before .before .before .before .before .before .before .before .before .before .before .before .before .before .before .before .before .args .mode) (c .before .before .before .before .before .before .before .before .before .before .before .before .before .before .before .before .before .args .left)) _ _) (at-keyword-of (c .before .before .before .before .before .before)) refl (known-run stepped (c .before .before .before .before .commanded .ensures) (c .done .given .1)) (c .before .before .before .before .commanded .kept .1 .0)
+  at-done c = spending _ (commanded-costs (expression-pays _ _) (group-pays (c .before .before .before .before .before .before .before .before .before .before .before .before .before .before .before .before .before .before .args .mode) (c .before .before .before .before .before .before .before .before .before .before .before .before .before .before .before .before .before .before .args .left)) _ _) (at-keyword-of (c .before .before .before .before .before .before)) refl (known-run stepped (c .before .before .before .before .commanded .ensures) (c .done .given .1)) (c .before .before .before .before .commanded .kept .1 .0)
 
   pub returns : lts.Need-returns (callees t) (command-at t) command.Post
   unfolding rule.command rule.command-with
-  returns c = lost-here _ (at-entry (c .before .before .before .before .before)) refl (known taken (c .before .before .token .ensures) (c .enum-told .given .1))
+  returns c = lost-here _ (at-entry (c .before .before .before .before .before .before)) refl (known taken (c .before .before .token .ensures) (c .enum-told .given .1))
 
   pub returns-2 : lts.Need-returns-2 (callees t) (command-at t) command.Post
   unfolding rule.command rule.command-with
   returns-2 c = lost-here _ (at-name (c .before .before .before .before)) refl (known read (c .before .before .skip .ensures) (c .enum-told2 .given .1))
 
   pub commanded-requires : lts.Need-commanded-requires (callees t) (command-at t) command.Post
-  commanded-requires c κs = (omega (arith, c .before .before .before .before .before .before .before .before .before .before .before .before .pre .0), ((at-keyword-of (c .before)) .room, omega (arith, (at-keyword-of (c .before)) .spare)))
+  commanded-requires c κs = (omega (arith, c .before .before .before .before .before .before .before .before .before .before .before .before .before .pre .0), ((at-keyword-of (c .before)) .room, (omega (arith, (at-keyword-of (c .before)) .spare), c .before .before .before .before .before .before .before .before .before .before .before .before .before .pre .1 .1)))
 
   pub same-length : lts.Need-same-length (callees t) (command-at t) command.Post
   same-length c = c .before .before .before .commanded .kept .1 .0 ∙ (at-keyword-of (c .before .before .before .before .before)) .size

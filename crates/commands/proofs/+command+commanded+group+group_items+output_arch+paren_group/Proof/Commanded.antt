@@ -27,46 +27,46 @@ callees t =
 
 module _ (t : ℕ) where
   pub paren-group-requires : lts.Need-paren-group-requires (callees t) (commanded-at t) commanded.Post
-  paren-group-requires c κs = (omega (arith, c .before .before .before .before .pre .0), c .before .before .before .before .pre .1 .0)
+  paren-group-requires c κs = (omega (arith, c .before .before .before .before .before .pre .0), (c .before .before .before .before .before .pre .1 .0, c .before .before .before .before .before .pre .1 .1 .1))
 
   pub paren-group-requires-2 : lts.Need-paren-group-requires-2 (callees t) (commanded-at t) commanded.Post
-  paren-group-requires-2 c κs = (omega (arith, c .before .before .before .before .pre .0), c .before .before .before .before .pre .1 .0)
+  paren-group-requires-2 c κs = (omega (arith, c .before .before .before .before .before .pre .0), (c .before .before .before .before .before .pre .1 .0, c .before .before .before .before .before .pre .1 .1 .1))
 
   pub output-format-requires : lts.Need-output-format-requires (callees t) (commanded-at t) commanded.Post
-  output-format-requires c κs = c .before .before .before .before .pre .1 .0
+  output-format-requires c κs = c .before .before .before .before .before .pre .1 .0
 
   pub output-arch-requires : lts.Need-output-arch-requires (callees t) (commanded-at t) commanded.Post
-  output-arch-requires c κs = (omega (arith, c .before .before .before .before .pre .0), c .before .before .before .before .pre .1 .0)
+  output-arch-requires c κs = (omega (arith, c .before .before .before .before .before .pre .0), (c .before .before .before .before .before .pre .1 .0, c .before .before .before .before .before .pre .1 .1 .1))
 
   pub paren-group-requires-3 : lts.Need-paren-group-requires-3 (callees t) (commanded-at t) commanded.Post
-  paren-group-requires-3 c κs = (omega (arith, c .before .before .before .before .pre .0), c .before .before .before .before .pre .1 .0)
+  paren-group-requires-3 c κs = (omega (arith, c .before .before .before .before .before .pre .0), (c .before .before .before .before .before .pre .1 .0, c .before .before .before .before .before .pre .1 .1 .1))
 
   pub braced-requires : lts.Need-braced-requires (callees t) (commanded-at t) commanded.Post
-  braced-requires c κs = c .before .before .before .before .pre .1 .0
+  braced-requires c κs = (c .before .before .before .before .before .pre .1 .0, c .before .before .before .before .before .pre .1 .1 .1)
 
   pub entry-requires : lts.Need-entry-requires (callees t) (commanded-at t) commanded.Post
-  entry-requires c κs = c .before .before .before .before .pre .1 .0
+  entry-requires c κs = c .before .before .before .before .before .pre .1 .0
 
   pub version-requires : lts.Need-version-requires (callees t) (commanded-at t) commanded.Post
-  version-requires c κs = c .before .before .before .before .pre .1 .0
+  version-requires c κs = c .before .before .before .before .before .pre .1 .0
 
   pub provide-requires : lts.Need-provide-requires (callees t) (commanded-at t) commanded.Post
-  provide-requires c κs = c .before .before .before .before .pre .1 .0
+  provide-requires c κs = c .before .before .before .before .before .pre .1 .0
 
   pub provide-requires-2 : lts.Need-provide-requires-2 (callees t) (commanded-at t) commanded.Post
-  provide-requires-2 c κs = c .before .before .before .before .pre .1 .0
+  provide-requires-2 c κs = c .before .before .before .before .before .pre .1 .0
 
   pub asserted-requires : lts.Need-asserted-requires (callees t) (commanded-at t) commanded.Post
-  asserted-requires c κs = c .before .before .before .before .pre .1 .0
+  asserted-requires c κs = c .before .before .before .before .before .pre .1 .0
 
   pub braced-requires-2 : lts.Need-braced-requires-2 (callees t) (commanded-at t) commanded.Post
-  braced-requires-2 c κs = c .before .before .before .before .pre .1 .0
+  braced-requires-2 c κs = (c .before .before .before .before .before .pre .1 .0, c .before .before .before .before .before .pre .1 .1 .1)
 
   pub braced-requires-3 : lts.Need-braced-requires-3 (callees t) (commanded-at t) commanded.Post
-  braced-requires-3 c κs = c .before .before .before .before .pre .1 .0
+  braced-requires-3 c κs = (c .before .before .before .before .before .pre .1 .0, c .before .before .before .before .before .pre .1 .1 .1)
 
   pub other-requires : lts.Need-other-requires (callees t) (commanded-at t) commanded.Post
-  other-requires c κs = (c .before .before .before .before .pre .1 .0, c .before .before .before .before .pre .1 .1)
+  other-requires c κs = (c .before .before .before .before .before .pre .1 .0, c .before .before .before .before .before .pre .1 .1 .0)
 
   pub returns : lts.Need-returns (callees t) (commanded-at t) commanded.Post
   unfolding rule.commanded keyword-of numbered keywords same if_then_else_

@@ -24,15 +24,15 @@ callees t =
 
 module _ (t : ℕ) where
   abbrev at-entry : (c : lts.Start (callees t) (group-at t) group.Post) → Way (rule.group (c .args .mode) (c .args .left)) (c .args .script .now) (c .args .tape .now) (c .args .c) 0 (c .args .tape .now) (c .args .c)
-  at-entry c = enter (group-pays _ _) (c .pre .1)
+  at-entry c = enter (group-pays _ _) (c .pre .1 .0)
 
-  abbrev at-if1 : (c : lts.Then1 (callees t) (group-at t) group.Post) → Further (at-entry (c .before .before .before)) (c .before .before .before .args .c)
+  abbrev at-if1 : (c : lts.Then1 (callees t) (group-at t) group.Post) → Further (at-entry (c .before .before .before .before)) (c .before .before .before .before .args .c)
   unfolding rule.group rule.command
-  at-if1 c = same-as (at-entry (c .before .before .before)) (ap (λ n. rule.group (c .before .before .before .args .mode) n) (c .if1 .taken))
+  at-if1 c = same-as (at-entry (c .before .before .before .before)) (ap (λ n. rule.group (c .before .before .before .before .args .mode) n) (c .if1 .taken))
 
-  abbrev at-if1-left : (c : lts.Else1 (callees t) (group-at t) group.Post) → Further (at-entry (c .before .before .before)) (c .before .before .before .args .c)
+  abbrev at-if1-left : (c : lts.Else1 (callees t) (group-at t) group.Post) → Further (at-entry (c .before .before .before .before)) (c .before .before .before .before .args .c)
   unfolding rule.group rule.command
-  at-if1-left c = same-as (at-entry (c .before .before .before)) (ap (λ n. rule.group (c .before .before .before .args .mode) n) (above (c .before .before .before .args .left) (c .if1 .left)))
+  at-if1-left c = same-as (at-entry (c .before .before .before .before)) (ap (λ n. rule.group (c .before .before .before .before .args .mode) n) (above (c .before .before .before .before .args .left) (c .if1 .left)))
 
   abbrev at-skipped : (c : lts.After-skipped (callees t) (group-at t) group.Post) → Further (at-if1-left (c .before .before .before)) (c .skipped .given .0 .0)
   unfolding rule.group rule.command
@@ -47,7 +47,7 @@ module _ (t : ℕ) where
   returns-2 c = lost-here _ (at-if1-left (c .before .before .before)) refl (known read (c .before .before .skip .ensures) (c .enum-told .given .1))
 
   pub group-items-requires : lts.Need-group-items-requires (callees t) (group-at t) group.Post
-  group-items-requires c κs = (omega (arith, c .before .before .before .before .before .before .before .before .pre .0, c .before .before .before .before .before .if1 .left), (at-skipped (c .before .before)) .room)
+  group-items-requires c κs = (omega (arith, c .before .before .before .before .before .before .before .before .before .pre .0, c .before .before .before .before .before .if1 .left), ((at-skipped (c .before .before)) .room, c .before .before .before .before .before .before .before .before .before .pre .1 .1))
 
   pub same-length : lts.Need-same-length (callees t) (group-at t) group.Post
   same-length c = c .before .before .group-items .kept .1 .0 ∙ (at-skipped (c .before .before .before .before .before)) .size

@@ -26,18 +26,18 @@ callees t =
     (word-reads.Asked, word-reads.Learnt, command-below t, command.Post, counted-reads.Asked, counted-reads.Learnt)
 
 abbrev pub Inv-loop : lts.InvT-loop
-Inv-loop script tape₀ mode left at₀ k₀ turns₀ mark tape at k turns = Loop (Reads (repeat-till (rule.command mode left) (word ")")) script tape₀ at₀) script (length tape₀) (at₀ .count) (repeating (rule.command mode left) (word ")") turns k) tape at × (k + turns ≡ length script + 1)
+Inv-loop script tape₀ mode left marks at₀ k₀ turns₀ mark tape at k turns = Loop (Reads (repeat-till (rule.command mode left) (word ")")) script tape₀ at₀) script (length tape₀) (at₀ .count) (repeating (rule.command mode left) (word ")") turns k) tape at × (k + turns ≡ length script + 1)
 
 abbrev pub μ-loop : lts.MeasureT-loop
-μ-loop script tape₀ mode left at₀ k₀ turns₀ mark tape at k turns = turns
+μ-loop script tape₀ mode left marks at₀ k₀ turns₀ mark tape at k turns = turns
 
 module _ (t : ℕ) where
   abbrev at-entry : (c : lts.Start (callees t) (group-items-at t) group-items.Post Inv-loop μ-loop) → Way (repeat-till (rule.command (c .args .mode) (c .args .left)) (word ")")) (c .args .script .now) (c .args .tape .now) (c .args .c) 0 (c .args .tape .now) (c .args .c)
-  at-entry c = enter (λ f i. repeats (command-pays (c .args .mode) (c .args .left) f i) (over _)) (c .pre .1)
+  at-entry c = enter (λ f i. repeats (command-pays (c .args .mode) (c .args .left) f i) (over _)) (c .pre .1 .0)
 
   abbrev at-turn : (c : lts.In-loop (callees t) (group-items-at t) group-items.Post Inv-loop μ-loop) → Further (c .before .loop .inv .0 .way) (c .before .loop .at)
   unfolding repeat-till repeating if_then_else_
-  at-turn c = turn (c .before .loop .inv .0 .way) (λ n. repeating (rule.command (c .before .before .before .before .args .mode) (c .before .before .before .before .args .left)) (word ")") n (c .before .loop .k)) (c .before .loop .inv .0 .left) (c .loop-test .taken)
+  at-turn c = turn (c .before .loop .inv .0 .way) (λ n. repeating (rule.command (c .before .before .before .before .before .args .mode) (c .before .before .before .before .before .args .left)) (word ")") n (c .before .loop .k)) (c .before .loop .inv .0 .left) (c .loop-test .taken)
 
   abbrev at-end : (c : lts.After-end (callees t) (group-items-at t) group-items.Post Inv-loop μ-loop) → Further (at-turn (c .before .before .before .before)) (c .end .given .0 .0)
   unfolding repeat-till repeating if_then_else_
@@ -57,7 +57,7 @@ module _ (t : ℕ) where
 
   pub loop-holds : lts.Need-loop-holds (callees t) (group-items-at t) group-items.Post Inv-loop μ-loop
   unfolding repeat-till repeating if_then_else_
-  loop-holds c = (record { way = bytes _ (at-entry (c .before .before)) refl sized; left = ap (λ n. repeating (rule.command (c .before .before .args .mode) (c .before .before .args .left)) (word ")") n 0) (sym (add-one (length (c .before .before .args .script .now)))) }, omega arith)
+  loop-holds c = (record { way = bytes _ (at-entry (c .before .before .before)) refl sized; left = ap (λ n. repeating (rule.command (c .before .before .before .args .mode) (c .before .before .before .args .left)) (word ")") n 0) (sym (add-one (length (c .before .before .before .args .script .now)))) }, omega arith)
 
   pub same-length : lts.Need-same-length (callees t) (group-items-at t) group-items.Post Inv-loop μ-loop
   same-length c = (at-end (c .before)) .size
@@ -67,7 +67,7 @@ module _ (t : ℕ) where
   returns c = ends-here (at-end (c .before)) (as-bytes (given _))
 
   pub command-requires : lts.Need-command-requires (callees t) (group-items-at t) group-items.Post Inv-loop μ-loop
-  command-requires c κs = (omega (arith, c .before .before .before .before .before .before .before .before .before .pre .0), (at-enum-told (c .before)) .room)
+  command-requires c κs = (omega (arith, c .before .before .before .before .before .before .before .before .before .before .pre .0), ((at-enum-told (c .before)) .room, c .before .before .before .before .before .before .before .before .before .before .pre .1 .1))
 
   pub same-length-2 : lts.Need-same-length-2 (callees t) (group-items-at t) group-items.Post Inv-loop μ-loop
   same-length-2 c = c .before .before .before .before .command .kept .1 .0 ∙ (at-enum-told (c .before .before .before .before .before .before)) .size
@@ -87,11 +87,11 @@ module _ (t : ℕ) where
 
   pub loop-again : lts.Need-loop-again (callees t) (group-items-at t) group-items.Post Inv-loop μ-loop
   unfolding repeat-till repeating if_then_else_
-  loop-again c = (record { way = (at-one (c .before)); left = ap (λ n. repeating (rule.command ((turn-of c) .before .before .before .before .args .mode) ((turn-of c) .before .before .before .before .args .left)) (word ")") ((turn-of c) .before .loop .turns - 1) n) (sym (add-one ((turn-of c) .before .loop .k))) }, omega (arith, (turn-of c) .before .loop .inv .1, (turn-of c) .loop-test .taken))
+  loop-again c = (record { way = (at-one (c .before)); left = ap (λ n. repeating (rule.command ((turn-of c) .before .before .before .before .before .args .mode) ((turn-of c) .before .before .before .before .before .args .left)) (word ")") ((turn-of c) .before .loop .turns - 1) n) (sym (add-one ((turn-of c) .before .loop .k))) }, omega (arith, (turn-of c) .before .loop .inv .1, (turn-of c) .loop-test .taken))
 
   pub same-length-3 : lts.Need-same-length-3 (callees t) (group-items-at t) group-items.Post Inv-loop μ-loop
   same-length-3 c = (c .before .loop .inv .0 .way) .size
 
   pub returns-3 : lts.Need-returns-3 (callees t) (group-items-at t) group-items.Post Inv-loop μ-loop
   unfolding repeat-till repeating if_then_else_
-  returns-3 c = spent (c .before .loop .inv .0 .way) (λ n. repeating (rule.command (c .before .before .before .before .args .mode) (c .before .before .before .before .args .left)) (word ")") n (c .before .loop .k)) (c .before .loop .inv .0 .left) (c .loop-test .left) (as-lost refused)
+  returns-3 c = spent (c .before .loop .inv .0 .way) (λ n. repeating (rule.command (c .before .before .before .before .before .args .mode) (c .before .before .before .before .before .args .left)) (word ")") n (c .before .loop .k)) (c .before .loop .inv .0 .left) (c .loop-test .left) (as-lost refused)

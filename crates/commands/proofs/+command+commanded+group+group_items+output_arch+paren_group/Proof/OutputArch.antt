@@ -26,26 +26,26 @@ callees t =
 
 module _ (t : ℕ) where
   abbrev at-entry : (c : lts.Start (callees t) (output-arch-at t) output-arch.Post) → Way (rule.output-arch (rule.group (c .args .mode) (c .args .left))) (c .args .script .now) (c .args .tape .now) (c .args .c) 0 (c .args .tape .now) (c .args .c)
-  at-entry c = enter (output-arch-pays (group-pays _ _)) (c .pre .1)
+  at-entry c = enter (output-arch-pays (group-pays _ _)) (c .pre .1 .0)
 
-  abbrev at-opened : (c : lts.After-opened (callees t) (output-arch-at t) output-arch.Post) → On (at-entry (c .before .before .before .before .before .before)) 1 (c .before .before .before .before .before .before .args .tape .now) (c .opened .given .0 .0)
+  abbrev at-opened : (c : lts.After-opened (callees t) (output-arch-at t) output-arch.Post) → On (at-entry (c .before .before .before .before .before .before .before)) 1 (c .before .before .before .before .before .before .before .args .tape .now) (c .opened .given .0 .0)
   unfolding rule.output-arch
-  at-opened c = earning _ (λ f i. earns (ascii "(") (omega arith)) (counting-on (at-entry (c .before .before .before .before .before .before)) _ refl) refl (known read (c .before .before .word .ensures) (c .opened .given .1))
+  at-opened c = earning _ (λ f i. earns (ascii "(") (omega arith)) (counting-on (at-entry (c .before .before .before .before .before .before .before)) _ refl) refl (known read (c .before .before .word .ensures) (c .opened .given .1))
 
   abbrev at-list : (c : lts.After-list (callees t) (output-arch-at t) output-arch.Post) → On (at-opened (c .before .before .before .before .before .before .before)) 1 (c .before .before .before .before .group .last .1 .0) (c .list .given .0 .1 .0)
   unfolding rule.output-arch
   at-list c = called _ (at-opened (c .before .before .before .before .before .before .before)) refl (known-read counted (c .before .before .before .before .group .ensures) (c .list .given .1)) (c .before .before .before .before .group .kept .1 .0)
 
-  abbrev at-back : (c : lts.After-list (callees t) (output-arch-at t) output-arch.Post) → Further (at-list c) (record { at = c .list .given .0 .1 .0 .at; count = c .before .before .before .before .before .before .before .before .before .before .before .before .before .args .c .count })
+  abbrev at-back : (c : lts.After-list (callees t) (output-arch-at t) output-arch.Post) → Further (at-list c) (record { at = c .list .given .0 .1 .0 .at; count = c .before .before .before .before .before .before .before .before .before .before .before .before .before .before .args .c .count })
   unfolding rule.output-arch
   at-back c = given-back _ (at-list c) refl ((at-list c) .low) (omega arith)
 
   pub returns : lts.Need-returns (callees t) (output-arch-at t) output-arch.Post
   unfolding rule.output-arch
-  returns c = lost-here _ (counting-on (at-entry (c .before .before .before .before .before .before)) _ refl) refl (known read (c .before .before .word .ensures) (c .enum-told .given .1))
+  returns c = lost-here _ (counting-on (at-entry (c .before .before .before .before .before .before .before)) _ refl) refl (known read (c .before .before .word .ensures) (c .enum-told .given .1))
 
   pub group-requires : lts.Need-group-requires (callees t) (output-arch-at t) output-arch.Post
-  group-requires c κs = (omega (arith, c .before .before .before .before .before .before .before .before .pre .0), (at-opened (c .before .before)) .room)
+  group-requires c κs = (omega (arith, c .before .before .before .before .before .before .before .before .before .pre .0), ((at-opened (c .before .before)) .room, c .before .before .before .before .before .before .before .before .before .pre .1 .1))
 
   pub same-length : lts.Need-same-length (callees t) (output-arch-at t) output-arch.Post
   same-length c = c .before .before .before .before .group .kept .1 .0 ∙ (at-opened (c .before .before .before .before .before .before .before)) .size

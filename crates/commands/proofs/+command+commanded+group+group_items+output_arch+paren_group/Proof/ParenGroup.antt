@@ -26,11 +26,11 @@ callees t =
 
 module _ (t : ℕ) where
   abbrev at-entry : (c : lts.Start (callees t) (paren-group-at t) paren-group.Post) → Way (rule.paren-group (rule.group (c .args .mode) (c .args .left)) (c .args .kind)) (c .args .script .now) (c .args .tape .now) (c .args .c) 0 (c .args .tape .now) (c .args .c)
-  at-entry c = enter (paren-group-pays (group-pays _ _) (c .args .kind)) (c .pre .1)
+  at-entry c = enter (paren-group-pays (group-pays _ _) (c .args .kind)) (c .pre .1 .0)
 
-  abbrev at-opened : (c : lts.After-opened (callees t) (paren-group-at t) paren-group.Post) → On (at-entry (c .before .before .before .before .before .before)) 1 (c .before .before .before .before .before .before .args .tape .now) (c .opened .given .0 .0)
+  abbrev at-opened : (c : lts.After-opened (callees t) (paren-group-at t) paren-group.Post) → On (at-entry (c .before .before .before .before .before .before .before)) 1 (c .before .before .before .before .before .before .before .args .tape .now) (c .opened .given .0 .0)
   unfolding rule.paren-group
-  at-opened c = earning _ (λ f i. earns (ascii "(") (omega arith)) (at-entry (c .before .before .before .before .before .before)) refl (known read (c .before .before .word .ensures) (c .opened .given .1))
+  at-opened c = earning _ (λ f i. earns (ascii "(") (omega arith)) (at-entry (c .before .before .before .before .before .before .before)) refl (known read (c .before .before .word .ensures) (c .opened .given .1))
 
   abbrev at-list : (c : lts.After-list (callees t) (paren-group-at t) paren-group.Post) → On (at-opened (c .before .before .before .before .before .before .before)) 1 (c .before .before .before .before .group .last .1 .0) (c .list .given .0 .1 .0)
   unfolding rule.paren-group
@@ -38,10 +38,10 @@ module _ (t : ℕ) where
 
   pub returns : lts.Need-returns (callees t) (paren-group-at t) paren-group.Post
   unfolding rule.paren-group
-  returns c = lost-here _ (at-entry (c .before .before .before .before .before .before)) refl (known read (c .before .before .word .ensures) (c .enum-told .given .1))
+  returns c = lost-here _ (at-entry (c .before .before .before .before .before .before .before)) refl (known read (c .before .before .word .ensures) (c .enum-told .given .1))
 
   pub group-requires : lts.Need-group-requires (callees t) (paren-group-at t) paren-group.Post
-  group-requires c κs = (omega (arith, c .before .before .before .before .before .before .before .before .pre .0), (at-opened (c .before .before)) .room)
+  group-requires c κs = (omega (arith, c .before .before .before .before .before .before .before .before .before .pre .0), ((at-opened (c .before .before)) .room, c .before .before .before .before .before .before .before .before .before .pre .1 .1))
 
   pub same-length : lts.Need-same-length (callees t) (paren-group-at t) paren-group.Post
   same-length c = c .before .before .before .before .group .kept .1 .0 ∙ (at-opened (c .before .before .before .before .before .before .before)) .size
