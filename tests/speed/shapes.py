@@ -89,7 +89,7 @@ SHAPES = {
     "the same inside ASSERT": far("+1", CONTENTS, "PROVIDE(a =ASSERT(1,/* )", '*/"m")'),
     "the same in brackets": far("+1", CONTENTS, "PROVIDE(a =(MIN((ASSERT(1,/* )", '*/"m")'),
     "the same with KEEP": far(" SORT(b) b", CONTENTS, "KEEP/*(a)", "*/(a(b"),
-    "the same with CONSTRUCTORS": far("+1", CONTENTS, "CONSTRUCTORS+=/*(a)", "*/1"),
+    "the same with CONSTRUCTORS": halves(CONTENTS, "CONSTRUCTORS +=/*(a)", "*/1", "+1", "+}}"),
     "a comment before a long token": far("a", CONTENTS, "PROVIDE(a =ASSERT(/* )", "*/1,"),
 }
 
