@@ -3,19 +3,19 @@ use mathlib.Core.Path.{_≡_, refl, sym, ap, _∙_}
 use Prim.Native.Nat.{ℕ, zero, suc, _+_, _≤_, _<_}
 use native.Mathlib.Omega.{arith}
 use mathlib.Core.List.{List, [], _∷_}
-use mathlib.Core.Bool.{Bool, true, false}
+use mathlib.Core.Bool.{true, false}
 use mathlib.Core.Option.{Option, none, some}
 use types.Run.{OneOf, miss}
 use denote.Enum.Declared.{tagOf}
 use lib.ListN.{length, drop, getD}
 use Rattle.rules.specs.Text.{ascii, begins, run}
 use Rattle.rules.specs.Rule.{Held, Out, got, fail, deep, Rule, after, give, fails, done, size, add, bytes, tag, word, not-here, opt, is-some, perhaps, repeating, repeat-till, if_then_else_, _or-else_, _>>=_, _>>_}
-use Rattle.rules.specs.Bytes.{is-pattern, skip, skip-tag, skip-tag-skip, tag-skip, pattern-name}
+use Rattle.rules.specs.Bytes.{is-pattern, skip, skip-tag-skip, tag-skip, pattern-name}
 use Rattle.rules.specs.Keywords.{keyword, _is_}
 use Rattle.rules.specs.Expressions.{sign}
 use Rattle.rules.specs.Contents.{sort, sorted-pattern, plain-pattern, pattern, matcher-pattern, keep}
 use Rattle.rules.specs.declared.Token.{Token}
-use Rattle.rules.proofs.Rule.{not-fail, not-deep, deep-fail}
+use Rattle.rules.proofs.Rule.{not-fail}
 use Rattle.rules.proofs.Text.{run-on}
 use Rattle.rules.proofs.Ahead.{on}
 use Rattle.rules.proofs.Blind.{Blind, nothing, over, _seen-by_, repeat-blind, tag-blind, size-blind, take-while-blind}
@@ -30,14 +30,9 @@ use Rattle.foresight.specs.declared.Told.the-variants.{Nothing, Fails, E
 use Rattle.foresight.specs.Tells.{Ended, Tells, raise, Led, Passes, PassesToken, Failure}
 use Rattle.foresight.proofs.Told.{the-type}
 use Rattle.foresight.proofs.Flat.{after-twice}
-use Rattle.foresight.proofs.Led.{tells-first, tells-then, tells-from, lexes-ends, lexes-fails, led-start, led-assoc, led-last, led-done, led-added, led-bytes, led-lost}
-use Rattle.foresight.proofs.Methods.{raise-none, passes-told}
-use Rattle.foresight.proofs.Operand.{led-on}
-use Rattle.foresight.proofs.Parts.{passes-skip-tag-skip, led-stopped}
-use Rattle.foresight.proofs.Contents.{led-known}
-
-abbrev cursor-at : ℕ → Cursor
-cursor-at x = record { at = x; count = 0 }
+use Rattle.foresight.proofs.Places.{place-of, tells-placed, Places, blind-places, other-way, then-places}
+use Rattle.foresight.proofs.Led.{raise-none, led-known, tells-from, cursor-at, lexes-ends, lexes-fails, led-start, led-first, led-on, led-by, led-assoc, led-last, Still, give-still, add-still, either-still, led-done, led-added, led-bytes, led-lost}
+use Rattle.foresight.proofs.Methods.{passes-told, passes-skip-tag, passes-skip-tag-skip}
 
 -- A NAME: it is read where a run of its bytes begins, and from one of them on it ends where it does from the next one
 abbrev name-alone : Rule (Unit {0})
@@ -78,64 +73,13 @@ module _ (s : List ℕ) (x : ℕ) (inside : x < length s) (here : is-pattern (ge
   name-behind (Fails need) o y = absurd (miss (0 ∷ 2 ∷ []) 1 tt o)
   name-behind (Ends need q) o y = record { true = λ left l h. next-byte _ refl h (y .true left l h) }
 
--- AN ANSWER'S PLACE, without the value and the records; rules that go to the same places, whatever is held
-abbrev place-of : {A : Type 0} → Out A → Out (Unit {0})
-place-of (got a q h) = got tt q nothing
-place-of fail = fail
-place-of deep = deep
-
-record Places {A B : Type 0} (m : Rule A) (n : Rule B) : Type 0 where
-  same : (s : List ℕ) (p : ℕ) (h g : Held) → place-of (m .out s p h) ≡ place-of (n .out s p g)
-
-blind-places : {A : Type 0} {m : Rule A} → Blind m → Places m m
-blind-places {A} {m} x = record { same = λ s p h g. ap place-of (x .same s p h) ∙ both h g (m .out s p nothing) ∙ sym (ap place-of (x .same s p g)) }
-  where
-    both : (h g : Held) (o : Out A) → place-of (over h o) ≡ place-of (over g o)
-    both h g (got a q k) = refl
-    both h g fail = refl
-    both h g deep = refl
-
-other-way : {A B : Type 0} {m : Rule A} {n : Rule B} → Places m n → Places n m
-other-way x = record { same = λ s p h g. sym (x .same s p g h) }
-
-then-places : {A B C D : Type 0} {m : Rule A} {m′ : Rule B} {n : A → Rule C} {n′ : B → Rule D} → Places m m′ → ((a : A) (b : B) → Places (n a) (n′ b)) → Places (m >>= n) (m′ >>= n′)
-unfolding _>>=_
-then-places {A} {B} {m = m} {m′} {n} {n′} x y = record { same = λ s p h g. go s (m .out s p h) (m′ .out s p g) (x .same s p h g) }
-  where
-    go : (s : List ℕ) (o : Out A) (o′ : Out B) → place-of o ≡ place-of o′ → place-of (after o (λ a q k. n a .out s q k)) ≡ place-of (after o′ (λ b q k. n′ b .out s q k))
-    go s (got a q k) (got b r l) e = let j : q ≡ r = cc in rw (← j) (y a b .same s q k l)
-    go s (got a q k) fail e = absurd (not-fail (sym e))
-    go s (got a q k) deep e = absurd (not-deep (sym e))
-    go s fail (got b r l) e = absurd (not-fail e)
-    go s fail fail e = refl
-    go s fail deep e = absurd (deep-fail e)
-    go s deep (got b r l) e = absurd (not-deep e)
-    go s deep fail e = absurd (deep-fail (sym e))
-    go s deep deep e = refl
-
--- a rule that reads nothing
-record Still {A : Type 0} (m : Rule A) : Type 0 where
-  stays : (s : List ℕ) (p : ℕ) (h : Held) → place-of (m .out s p h) ≡ got tt p nothing
-
-give-still : {A : Type 0} (a : A) → Still (give a)
-unfolding give
-give-still a = record { stays = λ s p h. refl }
-
-add-still : (kind a b c d : ℕ) → Still (add kind a b c d)
-unfolding add
-add-still kind a b c d = record { stays = λ s p h. refl }
-
-if-still : {A : Type 0} (t : Bool) {m n : Rule A} → Still m → Still n → Still (if t then m else n)
-unfolding if_then_else_
-if-still true x y = x
-if-still false x y = y
-
+-- A RULE THAT READS NOTHING: behind a keyword's number, beside another one
 keyword-still : {A : Type 0} (t : Token) {n : ℕ → Rule A} → ((k : ℕ) → Still (n k)) → Still (keyword t >>= n)
 unfolding keyword bytes give _>>=_
-keyword-still t y = record { stays = λ s p h. y _ .stays s p h }
+keyword-still t y = record { stays = λ s x h. y _ .stays s x h }
 
 both-still : {A B : Type 0} {m : Rule A} {n : Rule B} → Still m → Still n → Places m n
-both-still x y = record { same = λ s p h g. x .stays s p h ∙ sym (y .stays s p g) }
+both-still x y = record { same = λ s p h g. ap place-of (x .stays s p h .so) ∙ sym (ap place-of (y .stays s p g .so)) }
 
 -- it may stand behind another one
 with-still : {A B : Type 0} {m : Rule A} {k : A → Rule B} → Blind m → ((a : A) → Still (k a)) → Places m (m >>= k)
@@ -143,30 +87,13 @@ unfolding _>>=_
 with-still {A} {m = m} {k} x y = record { same = λ s p h g. blind-places x .same s p h g ∙ go s (m .out s p g) }
   where
     go : (s : List ℕ) (o : Out A) → place-of o ≡ place-of (after o (λ a q l. k a .out s q l))
-    go s (got a q l) = sym (y a .stays s q l)
+    go s (got a q l) = sym (ap place-of (y a .stays s q l .so))
     go s fail = refl
     go s deep = refl
 
--- what is told of one is told of the other, and is left where the other is
-failed : {A : Type 0} (o : Out A) → place-of o ≡ fail → o ≡ fail
-failed (got a q h) e = absurd (not-fail (sym e))
-failed fail e = refl
-failed deep e = absurd (deep-fail (sym e))
-
-ended : {A : Type 0} (o : Out A) {q : ℕ} → place-of o ≡ got tt q nothing → Ended o q
-ended (got a r h) {q} e = let j : r ≡ q = cc in record { value = a; held = h; so = ap (λ k. got a k h) j }
-ended fail e = absurd (not-fail e)
-ended deep e = absurd (not-deep e)
-
-tells-placed : {A B : Type 0} {m : Rule A} {n : Rule B} → Places m n → {s : List ℕ} {x : ℕ} (b : Told) → Tells (λ left. m) s x b → Tells (λ left. n) s x b
-tells-placed z Nothing y = record { true = tt }
-tells-placed {n = n} z {s} {x} (Fails need) y = record { true = λ left l h. failed (n .out s x h) (sym (z .same s x h h) ∙ ap place-of (y .true left l h)) }
-tells-placed {n = n} z {s} {x} (Ends need q) y = record { true = λ left l h. ended (n .out s x h) (sym (z .same s x h h) ∙ ap place-of (y .true left l h .so)) }
-
+-- one that comes to the same places is left
 led-placed : {rule : ℕ → Rule (Unit {0})} {s : List ℕ} {p : ℕ} {r t : Rule (Unit {0})} → Places t r → (a : Told) → Led rule s p a (λ left. r) → Led rule s p a (λ left. t)
-led-placed z Nothing w = record { go = tt }
-led-placed z (Fails need) w = record { go = w .go }
-led-placed z (Ends need x) w = record { go = λ b y. w .go b (tells-placed z b y) }
+led-placed {s = s} {r = r} {t} z = led-by {r = λ left. r} (λ left. t) (λ x b y. tells-placed (λ left. r) x (λ h. h) (λ left h. sym (z .same s x h h)) b y)
 
 -- past a value, where what follows goes to the same places whichever it is
 led-any : {rule : ℕ → Rule (Unit {0})} {s : List ℕ} {p : ℕ} {A : Type 0} {m : Rule A} {k : A → Rule (Unit {0})} (n : Rule (Unit {0})) → Blind m → ((v : A) → Places n (k v)) → (a : Told) → Led rule s p a (λ left. m >>= k) → Led rule s p a (λ left. (m >> done) >> n)
@@ -191,12 +118,9 @@ after-blind w = tag-blind _ then-blind skip-blind
 
 -- A PATTERN WITHOUT A SORT WORD
 module _ {s : List ℕ} {x : ℕ} {skipped : Told} (to-name : Tells (λ left. skip) s x skipped) where
-  plain-begun : Led (λ left. plain-pattern) s x skipped (λ left. pattern-name >>= (λ name. skip >> add 64 (name .start) (name .len) 0 0))
+  pub plain-begun : Led (λ left. plain-pattern) s x skipped (λ left. pattern-name >>= (λ name. skip >> add 64 (name .start) (name .len) 0 0))
   unfolding plain-pattern
   plain-begun = passes-told (λ left. skip) refl to-name (raise-none skipped) _ _ _ led-start
-
-  pub plain-stopped : OneOf (0 ∷ 1 ∷ []) (tagOf the-type skipped) → Tells (λ left. plain-pattern) s x skipped
-  plain-stopped o = led-stopped skipped o plain-begun
 
   pub plain-told : {need : ℕ} {named lifted r : Told} → skipped ≡ Ends need x → Tells (λ left. name-alone) s x named → lifted ≡ raise need named → Passes (λ left. skip) s lifted r → Tells (λ left. plain-pattern) s x r
   plain-told {need} e name lift behind =
@@ -207,17 +131,10 @@ module _ {s : List ℕ} {x : ℕ} {skipped : Told} (to-name : Tells (λ left. sk
 abbrev in-brackets : (by : ℕ) → Rule (Unit {0})
 in-brackets by = skip >> (pattern-name >>= (λ name. skip-tag-skip (ascii ")") >> add 64 (name .start) (name .len) by 0))
 
-led-skip-tag : {rule : ℕ → Rule (Unit {0})} (w : List ℕ) {s : List ℕ} {p : ℕ} {a b c : Told} (n : Rule (Unit {0})) → Passes (λ left. skip) s a b → Passes (λ left. tag w) s b c → Led rule s p a (λ left. skip-tag w >> n) → Led rule s p c (λ left. n)
-unfolding skip-tag
-led-skip-tag w {a = a} n x y l = y _ _ _ (x _ _ _ (led-assoc _ _ _ a l))
-
 module _ (by : ℕ) {s : List ℕ} {x : ℕ} {before opened : Told} (to-bracket : Passes (λ left. skip) s (Ends 0 x) before) (bracket : Passes (λ left. tag (ascii "(")) s before opened) where
-  sorted-begun : Led (λ left. sorted-pattern by) s x opened (λ left. not-here "SORT" >> in-brackets by)
+  pub sorted-begun : Led (λ left. sorted-pattern by) s x opened (λ left. not-here "SORT" >> in-brackets by)
   unfolding sorted-pattern
-  sorted-begun = led-skip-tag (ascii "(") _ to-bracket bracket led-start
-
-  pub sorted-stopped : OneOf (0 ∷ 1 ∷ []) (tagOf the-type opened) → Tells (λ left. sorted-pattern by) s x opened
-  sorted-stopped o = led-stopped opened o sorted-begun
+  sorted-begun = passes-skip-tag (ascii "(") to-bracket bracket _ _ _ led-start
 
   module _ {need y : ℕ} (e : opened ≡ Ends need y) where
     pub sorted-twice : begins (ascii "SORT") (drop y s) ≡ true → Tells (λ left. sorted-pattern by) s x (Fails need)
@@ -297,14 +214,16 @@ module _ {s : List ℕ} {c : Cursor} where
         let f = on s (c .at) nothing (omega arith) e (pattern-steps .fine) .1 in
         (omega arith, omega arith)
 
+    first-turn : (a : Told) → Tells (λ left. pattern) s (c .at) a → Led (λ left. listed) s (c .at) a (λ left. from-turn (length s) 1)
+    first-turn = led-first (λ left. pattern) (λ left. from-turn (length s) 1) (λ left h. a-turn h)
+
     list-on : c .at ≤ length s → (a : Told) → Tells (λ left. pattern) s (c .at) a → Led (λ left. listed) s (c .at) a (λ left. listed)
     list-on i Nothing y = record { go = tt }
-    list-on i (Fails need) y = record { go = tells-from (λ left. listed) (c .at) (λ h. h) (λ left h. a-turn h) (Fails need) (tells-first (λ left _. from-turn (length s) 1) y) }
+    list-on i (Fails need) y = record { go = first-turn (Fails need) y .go }
     list-on i (Ends need q) y = record {
       go = λ b z.
           let l = past-pattern i y in
-          let behind = tells-from (λ left. from-turn (length s) 1) q (λ h. h) (λ left h. as-a-list s q (l .0) (l .1) h) b z in
-          tells-from (λ left. listed) (c .at) (λ h. h) (λ left h. a-turn h) (raise need b) (tells-then (λ left _. from-turn (length s) 1) y b (λ _. behind));
+          first-turn (Ends need q) y .go b (tells-from (λ left. from-turn (length s) 1) q (λ h. h) (λ left h. as-a-list s q (l .0) (l .1) h) b z);
     }
 
     pub list-told : c .at ≤ length s → {a r : Told} → Tells (λ left. pattern) s (c .at) a → Passes (λ left. listed) s a r → Tells (λ left. listed) s (c .at) r
@@ -316,7 +235,7 @@ module _ (file : Token) where
   noted patterns = keyword file >>= (λ k. if k is "*" then add 65 0 0 3 patterns else add 65 (file .start) (file .len) 1 patterns)
 
   noted-still : (patterns : ℕ) → Still (noted patterns)
-  noted-still patterns = keyword-still file (λ k. if-still _ (add-still _ _ _ _ _) (add-still _ _ _ _ _))
+  noted-still patterns = keyword-still file (λ k. either-still _ (add-still _ _ _ _ _) (add-still _ _ _ _ _))
 
   behind-list : (patterns : ℕ) → Places (skip >> tag-skip (ascii ")")) ((skip >> noted patterns) >> tag-skip (ascii ")"))
   behind-list patterns = then-places (with-still skip-blind (λ _. noted-still patterns)) (λ _ _. blind-places (after-blind _))
@@ -330,7 +249,7 @@ module _ {s : List ℕ} {p : ℕ} where
       → Passes (λ left. tag (ascii ")")) s past-list closed → Failure closed r → Tells (λ left. keep) s p r
   unfolding keep matcher-pattern tag-skip
   keep-told {opened = opened} {file} {inside = inside} word-keep to-bracket bracket name to-inner bracket-inner to-list patterns to-close close failure =
-      let begun = led-skip-tag (ascii "(") _ to-bracket bracket (word-keep _ _ _ led-start) in
+      let begun = passes-skip-tag (ascii "(") to-bracket bracket _ _ _ (word-keep _ _ _ led-start) in
       let at-file = name _ _ _ (led-assoc _ _ _ opened begun) in
       let at-list = passes-skip-tag-skip _ to-inner bracket-inner to-list _ _ _ (led-assoc _ _ _ file (at-file .led)) in
       let any = led-any (skip >> tag-skip (ascii ")")) list-blind (behind-list (at-file .name)) inside (led-assoc _ _ _ inside at-list) in

@@ -1,62 +1,29 @@
 -- WHAT IS TOLD OF THE ITEMS of a section's contents: their rules, part after part; a sign is read alike whether its left operand is held or not.
-use mathlib.Core.Path.{_≡_, refl, sym, ap, subst}
+use mathlib.Core.Path.{_≡_, refl, sym, ap}
 use Prim.Native.Nat.{ℕ}
-use native.Mathlib.Omega.{arith}
 use mathlib.Core.List.{List, [], _∷_}
 use mathlib.Core.Bool.{Bool, true, false}
-use types.Run.{OneOf, miss}
-use denote.Enum.Declared.{tagOf}
 use Rattle.rules.specs.Text.{ascii}
-use Rattle.rules.specs.Rule.{Held, Out, got, fail, deep, Rule, after, otherwise, more, give, here, tag, add, bytes-of, _>>=_, _>>_, if_then_else_, _or-else_}
-use Rattle.rules.specs.Bytes.{skip, tag-skip, skip-tag-skip, opt-word-skip}
+use Rattle.rules.specs.Rule.{Held, Out, got, fail, deep, Rule, after, otherwise, more, give, tag, add, bytes-of, _>>=_, _>>_, if_then_else_, _or-else_}
+use Rattle.rules.specs.Bytes.{skip-tag-skip, opt-word-skip}
 use Rattle.rules.specs.Keywords.{keyword, keyword-of, _is_}
-use Rattle.rules.specs.Expressions.{sign, expression, assert}
+use Rattle.rules.specs.Expressions.{sign, expression}
 use Rattle.rules.specs.Assignments.{compound, plain, target, assignment-op, expand, assigned, provide}
 use Rattle.rules.specs.Contents.{contents-provide, contents-assert, assignment}
 use Rattle.rules.specs.declared.Mode.{Mode}
 use Rattle.rules.specs.declared.Token.{Token}
-use Rattle.rules.proofs.Rule.{not-fail, not-deep}
+use Rattle.rules.proofs.Rule.{not-fail, not-deep, deep-fail}
 use Rattle.lex.specs.Contract.{went, lost, Lexes}
 use Rattle.lex.specs.declared.Cursor.{Cursor}
 use Rattle.lex.proofs.Lexes.{keyed}
 use Rattle.foresight.specs.declared.Told.{Told}
-use Rattle.foresight.specs.declared.Told.the-variants.{Nothing, Fails, Ends}
+use Rattle.foresight.specs.declared.Told.the-variants.{Fails, Ends}
 use Rattle.foresight.specs.declared.table.Column.the-variants.{Skip, Word, Expression}
 use Rattle.foresight.specs.Tells.{Tells, Led, Passes, SomeToken, PassesToken, PassesMessage, Failure}
 use Rattle.foresight.specs.Table.{told-of}
-use Rattle.foresight.proofs.Told.{the-type}
-use Rattle.foresight.proofs.Led.{tells-from, led-start, led-assoc, led-bytes, led-lost}
-use Rattle.foresight.proofs.Methods.{raise-none, passes-token}
-
--- where what is told is known; where it is no place
-pub led-known : {rule : ℕ → Rule (Unit {0})} {s : List ℕ} {p : ℕ} {n : ℕ → Rule (Unit {0})} {a b : Told} → a ≡ b → Led rule s p a n → Led rule s p b n
-led-known {rule} {s} {p} {n} q w = subst (λ a. Led rule s p a n) q w
-
-pub led-nowhere : {rule : ℕ → Rule (Unit {0})} {s : List ℕ} {p : ℕ} {n : ℕ → Rule (Unit {0})} (a : Told) → OneOf (0 ∷ 1 ∷ []) (tagOf the-type a) → Led rule s p a n → Tells rule s p a
-led-nowhere Nothing o w = record { true = tt }
-led-nowhere (Fails need) o w = w .go
-led-nowhere (Ends need x) o w = absurd (miss (0 ∷ 1 ∷ []) 2 tt o)
-
--- past the place that a rule asks for, whichever it is
-pub record SomePlace (rule : ℕ → Rule (Unit {0})) (s : List ℕ) (p : ℕ) (a : Told) (n : ℕ → ℕ → Rule (Unit {0})) : Type 0 where
-  pub place : ℕ
-  pub led : Led rule s p a (λ left. n left place)
-
-pub led-here : {rule : ℕ → Rule (Unit {0})} {s : List ℕ} {p : ℕ} (n : ℕ → ℕ → Rule (Unit {0})) (a : Told) → Led rule s p a (λ left. here >>= n left) → SomePlace rule s p a n
-unfolding here _>>=_
-led-here n Nothing w = record { place = 0; led = record { go = tt } }
-led-here n (Fails need) w = record { place = 0; led = record { go = w .go } }
-led-here n (Ends need x) w = record { place = x; led = record { go = λ b y. w .go b (tells-from _ x (λ h. h) (λ left h. refl) b y) } }
-
--- past a text and what is skipped after it; past what is skipped before a text, and the text
-module _ (mode : Mode) (w : List ℕ) {s : List ℕ} {a b c : Told} where
-  pub led-word-skip : {rule : ℕ → Rule (Unit {0})} {p : ℕ} (n : ℕ → Rule (Unit {0})) → Passes (λ left. tag w) s a b → Passes (told-of mode Skip) s b c → Led rule s p a (λ left. tag-skip w >> n left) → Led rule s p c n
-  unfolding tag-skip
-  led-word-skip n x y l = y _ _ n (x _ _ _ (led-assoc _ _ _ a l))
-
-  pub led-skip-word : {rule : ℕ → Rule (Unit {0})} {p : ℕ} (n : ℕ → Rule (Unit {0})) → Passes (told-of mode Skip) s a b → Passes (λ left. tag w) s b c → Led rule s p a (λ left. skip-tag-skip w >> n left) → Led rule s p c (λ left. skip >> n left)
-  unfolding skip-tag-skip
-  led-skip-word n x y l = y _ _ _ (led-assoc _ _ _ b (x _ _ _ (led-assoc _ _ _ a l)))
+use Rattle.foresight.proofs.Led.{raise-none, tells-from, led-start, led-assoc, led-bytes, led-lost}
+use Rattle.foresight.proofs.Methods.{passes-tag-skip, passes-skip-tag-skip, passes-token}
+use Rattle.foresight.proofs.Parts.{passes-assert}
 
 -- PROVIDE: its word is lost, or the rest is told
 module _ (mode : Mode) {s : List ℕ} {c : Cursor} where
@@ -71,26 +38,24 @@ module _ (mode : Mode) {s : List ℕ} {c : Cursor} where
       → Passes (told-of mode Skip) s signed before → Passes (told-of mode Expression) s before valued
       → Passes (told-of mode Skip) s valued past-value → Passes (λ left. tag (ascii ")")) s past-value closed
       → Failure closed r → Tells (λ left. contents-provide (expression mode left)) s (c .at) r
-  unfolding contents-provide provide
-  provide-told word to-bracket bracket to-name name to-sign equals to-value value to-close close failure =
+  unfolding contents-provide provide skip-tag-skip
+  provide-told {valued = valued} {past-value} word to-bracket bracket to-name name to-sign equals to-value value to-close close failure =
       let begun = led-bytes _ c (led-start {rule = λ left. contents-provide (expression mode left)}) word in
-      let opened = led-word-skip mode _ _ bracket to-name (to-bracket _ _ _ begun) in
-      let signed = led-skip-word mode _ _ to-sign equals (name _ _ _ opened .led) in
-      failure _ _ _ _ (led-skip-word mode _ _ to-close close (value _ _ _ (to-value _ _ _ signed)))
+      let opened = passes-tag-skip _ bracket to-name _ _ _ (to-bracket _ _ _ begun) in
+      let signed = passes-skip-tag-skip _ to-sign equals to-value _ _ _ (name _ _ _ opened .led) in
+      let read = to-close _ _ _ (led-assoc _ _ _ valued (value _ _ _ signed)) in
+      failure _ _ _ _ (close _ _ _ (led-assoc _ _ _ past-value read))
 
--- ASSERT, whose bracket is at some place
+-- ASSERT, behind its word
 module _ (mode : Mode) {s : List ℕ} {p : ℕ} where
   pub assert-told : {named behind opened inside valued closed r : Told} → Passes (λ left. tag (ascii "ASSERT")) s (Ends 0 p) named → Passes (told-of mode Skip) s named behind
       → Passes (λ left. tag (ascii "(")) s behind opened → Passes (told-of mode Skip) s opened inside
       → Passes (told-of mode Expression) s inside valued → PassesMessage s valued closed
       → Failure closed r → Tells (λ left. contents-assert (expression mode left)) s p r
-  unfolding contents-assert assert
-  assert-told {behind = behind} {inside = inside} {valued = valued} word to-bracket bracket to-value value message failure =
-      let begun = led-word-skip mode _ _ word to-bracket (led-start {rule = λ left. contents-assert (expression mode left)}) in
-      let placed = led-here _ behind (led-assoc _ _ _ behind begun) .led in
-      let opened = led-word-skip mode _ _ bracket to-value (led-assoc _ _ _ behind placed) in
-      let read = value _ _ _ (led-assoc _ _ _ inside opened) in
-      failure _ _ _ _ (message _ _ _ (led-assoc _ _ _ valued read) .led)
+  unfolding contents-assert
+  assert-told word to-bracket bracket to-value value message failure =
+      let begun = passes-tag-skip _ word to-bracket _ _ _ (led-start {rule = λ left. contents-assert (expression mode left)}) in
+      failure _ _ _ _ (passes-assert 50 (expression mode) (passes-tag-skip _ bracket to-value) value message _ _ _ begun)
 
 -- A SIGN: what the left operand holds, and what is held where it is that of a compound sign
 abbrev targeted : Token → (dot : Bool) → Held → Held
@@ -107,9 +72,6 @@ unfolding target add if_then_else_
 target-adds name true s q g = refl
 target-adds name false s q g = refl
 
-deep-not-fail : {A : Type 0} → _≡_ {A = Out A} deep fail → ⊥
-deep-not-fail e = let z : _≡_ {A = ℕ} 0 1 = cc in omega arith
-
 module _ (name : Token) (dot : Bool) {s : List ℕ} {c : Cursor} where
   sign-lost : Lexes (compound or-else plain) s c lost → Lexes (assignment-op name dot) s c lost
   unfolding assignment-op _or-else_ _>>=_
@@ -118,7 +80,7 @@ module _ (name : Token) (dot : Bool) {s : List ℕ} {c : Cursor} where
       go : (h : Held) (o : Out ℕ) → otherwise o (plain .out s (c .at) h) ≡ fail → otherwise (after o (λ k q g. (target name dot >> give k) .out s q g)) (plain .out s (c .at) h) ≡ fail
       go h (got k q g) e = absurd (not-fail (sym e))
       go h fail e = e
-      go h deep e = absurd (deep-not-fail e)
+      go h deep e = absurd (deep-fail (sym e))
 
   led-sign : {rule : ℕ → Rule (Unit {0})} {p : ℕ} (n : ℕ → ℕ → Rule (Unit {0})) {need kind : ℕ} {d : Cursor} → Lexes (compound or-else plain) s c (went kind d) → Led rule s p (Ends need (c .at)) (λ left. assignment-op name dot >>= n left) → Led rule s p (Ends need (d .at)) (λ left. n left kind)
   unfolding assignment-op _or-else_ _>>=_ give

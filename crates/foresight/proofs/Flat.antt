@@ -55,7 +55,8 @@ after-twice (got a q g) k j = refl
 after-twice fail k j = refl
 after-twice deep k j = refl
 
-after-done : (o : Out (Unit {0})) → o ≡ after o (λ _ q g. got tt q g)
+-- nothing goes on
+pub after-done : (o : Out (Unit {0})) → o ≡ after o (λ _ q g. got tt q g)
 after-done (got tt q g) = refl
 after-done fail = refl
 after-done deep = refl
@@ -66,21 +67,6 @@ module _ (tight : Rule (Unit {0})) (s : List ℕ) where
   climb-rest [] p h = after-done (tight .out s p h)
   climb-rest (row ∷ rows) p h =
       rw (climb-rest rows p h, most-turns row (length s)) (after-twice (tight .out s p h) _ _)
-
-  module _ (rows : List Row) {p : ℕ} where
-    pub climb-fails : AlwaysFails tight s p → AlwaysFails (climb rows tight) s p
-    unfolding _>>=_
-    climb-fails x h = climb-rest rows p h ∙ rw (x h)
-
-    pub climb-rest-fails : {q : ℕ} → AlwaysEnds tight s p q → AlwaysFails (rest true rows tight) s q → AlwaysFails (climb rows tight) s p
-    unfolding _>>=_
-    climb-rest-fails x y h = climb-rest rows p h ∙ rw (x h .so) (y (x h .held))
-
-    pub climb-rest-ends : {q e : ℕ} → AlwaysEnds tight s p q → AlwaysEnds (rest true rows tight) s q e → AlwaysEnds (climb rows tight) s p e
-    unfolding _>>=_
-    climb-rest-ends x y h =
-        let z = y (x h .held) in
-        record { value = tt; held = z .held; so = climb-rest rows p h ∙ rw (x h .so) (z .so) }
 
 -- BLANKS are read to their end, so that none are left
 module _ (s : List ℕ) (x : ℕ) {y : ℕ} (blank : (h : Held) → multispace0 .out s x h ≡ got tt y h) where

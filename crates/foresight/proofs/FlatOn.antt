@@ -6,70 +6,24 @@ use native.Mathlib.Numerals.{add-one}
 use mathlib.Core.List.{List, [], _∷_}
 use mathlib.Core.Bool.{Bool, true, false}
 use lib.ListN.{length, drop}
-use Rattle.rules.specs.Rule.{Held, Out, got, fail, deep, Rule, give, after, _>>=_, _>>_, _or-else_, opt, perhaps, size, add}
+use Rattle.rules.specs.Rule.{Held, got, Rule, give, after, _>>=_, _>>_, _or-else_, opt, perhaps, size, add}
 use Rattle.rules.specs.Bytes.{multispace0}
 use Rattle.rules.specs.Expressions.{ladder, operator, chain, climb, unary, levels}
 use Rattle.rules.specs.declared.Mode.{Mode}
 use Rattle.rules.specs.declared.Mode.the-variants.{Wild, Book}
 use Rattle.rules.specs.declared.Row.{Row}
 use Rattle.rules.specs.declared.Row.the-variants.{LogicalOr, LogicalAnd, Comparison, Comparisons, BitwiseOr, BitwiseXor, BitwiseAnd, Shift, Additive, Multiplicative}
-use Rattle.rules.proofs.Rule.{not-fail, not-deep, deep-fail}
-use Rattle.rules.proofs.Blind.{Blind, nothing, over}
+use Rattle.rules.proofs.Blind.{Blind, nothing}
 use Rattle.rules.proofs.Independent.{_then-blind_, blanks as blanks-blind, operator-blind, chain-blind, climb-blind}
 use Rattle.rules.proofs.Pays.{Fine}
 use Rattle.rules.proofs.Ahead.{Ahead, on, past}
 use Rattle.rules.proofs.Bytes.{multispace0-pays}
 use Rattle.rules.proofs.Expressions.{operator-pays, climb-pays}
 use Rattle.rules.proofs.Turns.{_same-by_, chain-enough}
-use Rattle.foresight.specs.Tells.{Ended, AlwaysFails, AlwaysEnds}
 use Rattle.foresight.specs.Rest.{turns-of, fresh-after, rest, Silent}
 use Rattle.foresight.proofs.Below.{operand-blind, operand-pays, operand-ahead}
+use Rattle.foresight.proofs.Places.{place-of, place-then, place-alike, blind-places}
 use Rattle.foresight.proofs.Flat.{rest-blind, rest-pays, climb-rest, rest-silent, after-twice}
-
--- AN ANSWER WITHOUT ITS RECORDS
-abbrev bare : {A : Type 0} → Out A → Out A
-bare (got a q h) = got a q nothing
-bare fail = fail
-bare deep = deep
-
-bare-over : {A : Type 0} (h : Held) (o : Out A) → bare (over h o) ≡ bare o
-bare-over h (got a q g) = refl
-bare-over h fail = refl
-bare-over h deep = refl
-
--- a blind rule answers the same but for its records, whatever is held
-bare-blind : {A : Type 0} {m : Rule A} → Blind m → (s : List ℕ) (p : ℕ) (h g : Held) → bare (m .out s p h) ≡ bare (m .out s p g)
-bare-blind {m = m} x s p h g =
-    ap bare (x .same s p h) ∙ bare-over h (m .out s p nothing) ∙ sym (bare-over g (m .out s p nothing)) ∙ sym (ap bare (x .same s p g))
-
--- and so does what goes on from such answers
-bare-then : {A B : Type 0} (o o′ : Out A) (k j : A → ℕ → Held → Out B) → bare o ≡ bare o′ → ((a : A) (q : ℕ) (h g : Held) → bare (k a q h) ≡ bare (j a q g)) → bare (after o k) ≡ bare (after o′ j)
-bare-then (got a q h) (got b r g) k j e f = let x : a ≡ b = cc in let y : q ≡ r = cc in rw (← x, ← y) (f a q h g)
-bare-then (got a q h) fail k j e f = absurd (not-fail (sym e))
-bare-then (got a q h) deep k j e f = absurd (not-deep (sym e))
-bare-then fail (got b r g) k j e f = absurd (not-fail e)
-bare-then fail fail k j e f = refl
-bare-then fail deep k j e f = absurd (deep-fail e)
-bare-then deep (got b r g) k j e f = absurd (not-deep e)
-bare-then deep fail k j e f = absurd (deep-fail (sym e))
-bare-then deep deep k j e f = refl
-
--- the same answer, read on in two ways that end alike
-bare-alike : {A B : Type 0} (o : Out A) (k j : A → ℕ → Held → Out B) → ((a : A) (q : ℕ) (g : Held) → o ≡ got a q g → bare (k a q g) ≡ bare (j a q g)) → bare (after o k) ≡ bare (after o j)
-bare-alike (got a q g) k j f = f a q g refl
-bare-alike fail k j f = refl
-bare-alike deep k j f = refl
-
--- such an answer tells whether the rule fails, and where it ends
-bare-fails : {A : Type 0} (o : Out A) → bare o ≡ fail → o ≡ fail
-bare-fails (got a q h) e = absurd (not-fail (sym e))
-bare-fails fail e = refl
-bare-fails deep e = e
-
-bare-ends : {A : Type 0} (o : Out A) {a : A} {q : ℕ} → bare o ≡ got a q nothing → Ended o q
-bare-ends (got b r h) {a} {q} e = record { value = b; held = h; so = let x : r ≡ q = cc in ap (λ z. got b z h) x }
-bare-ends fail e = absurd (not-fail e)
-bare-ends deep e = absurd (not-deep e)
 
 -- THE ROWS IN THEIR ORDER: a, which is looser, has the same turns before an operator of b and after it; b has all its turns after one of a
 record Before (a b : Row) : Type 0 where
@@ -133,18 +87,18 @@ module _ {tight : Rule (Unit {0})} (blind : Blind tight) (fine : Fine tight) (ah
     fresh′ = fresh-after fresh row
 
     -- with one turn less the row reads on as with all that it has then
-    turn-less : (rows : List Row) (m v : ℕ) (g k : Held) → 2 ≤ v → v ≤ length s → turns-of fresh row (length s) ≡ suc m → bare (links row rows m .out s v g) ≡ bare (links row rows (turns-of fresh′ row (length s)) .out s v k)
+    turn-less : (rows : List Row) (m v : ℕ) (g k : Held) → 2 ≤ v → v ≤ length s → turns-of fresh row (length s) ≡ suc m → place-of (links row rows m .out s v g) ≡ place-of (links row rows (turns-of fresh′ row (length s)) .out s v k)
     turn-less rows m v g k l u q = go m q (spent fresh row (length s) open-row)
       where
-        go : (m : ℕ) → turns-of fresh row (length s) ≡ suc m → Remaining fresh row (length s) → bare (links row rows m .out s v g) ≡ bare (links row rows (turns-of fresh′ row (length s)) .out s v k)
+        go : (m : ℕ) → turns-of fresh row (length s) ≡ suc m → Remaining fresh row (length s) → place-of (links row rows m .out s v g) ≡ place-of (links row rows (turns-of fresh′ row (length s)) .out s v k)
         go zero q (many a b) = absurd (omega arith)
         go (suc n) q (many a b) =
             let i : turns-of fresh′ row (length s) ≡ suc (suc n) = b ∙ sym a ∙ q in
             let j = (multispace0-pays 0 0 same-by (λ _. chain-enough s 0 0 row (climb-pays rows fine) n (suc n) v (omega arith) (omega arith) tt)) .same v nothing (omega arith) u (omega arith) (omega arith) in
-            rw i (bare-blind (links-blind row rows (suc n)) s v g nothing ∙ ap bare (sym j) ∙ bare-blind (links-blind row rows (suc (suc n))) s v nothing k)
+            rw i (blind-places (links-blind row rows (suc n)) .same s v g nothing ∙ ap place-of (sym j) ∙ blind-places (links-blind row rows (suc (suc n))) .same s v nothing k)
         go m q (lone a b) =
             let i : m ≡ 0 = omega arith in
-            rw (i, b) (bare-blind (links-blind row rows 0) s v g k)
+            rw (i, b) (blind-places (links-blind row rows 0) .same s v g k)
 
     -- the operator, and then an operand
     turn : (operand : Rule (Unit {0})) (m : ℕ) (h : Held) → chain (operator row) operand (suc m) .out s y h ≡ after (operand .out s f h) (λ _ v g. (add kind 0 0 0 0 >> (multispace0 >> chain (operator row) operand m)) .out s v g)
@@ -167,15 +121,15 @@ module _ {tight : Rule (Unit {0})} (blind : Blind tight) (fine : Fine tight) (ah
 
     -- after the operand: the tighter rows, and the row itself
     module _ (rows : List Row) (m : ℕ) (q : turns-of fresh row (length s) ≡ suc m) (ordered : Each (Before row) rows) where
-      read-on : (w : ℕ) (g : Held) → 2 ≤ w → w ≤ length s → g .count ≤ w → bare (after (rest true rows tight .out s w g) (λ _ v k. (add kind 0 0 0 0 >> links row rows m) .out s v k)) ≡ bare (rest fresh′ (row ∷ rows) tight .out s w g)
+      read-on : (w : ℕ) (g : Held) → 2 ≤ w → w ≤ length s → g .count ≤ w → place-of (after (rest true rows tight .out s w g) (λ _ v k. (add kind 0 0 0 0 >> links row rows m) .out s v k)) ≡ place-of (rest fresh′ (row ∷ rows) tight .out s w g)
       unfolding rest _>>=_ add size
-      read-on w g l u c = rw (rest-inner fresh row rows ordered tight s w g) (bare-alike (rest fresh′ rows tight .out s w g) _ _ (λ a v k i.
+      read-on w g l u c = rw (rest-inner fresh row rows ordered tight s w g) (place-alike (rest fresh′ rows tight .out s w g) _ _ (λ a v k i.
           let z = on s w g c i (rest-pays fresh′ rows fine) in
           turn-less rows m v _ k (omega arith) (omega arith) q))
 
-      operand-on : bare (after (climb rows tight .out s f nothing) (λ _ v k. (add kind 0 0 0 0 >> links row rows m) .out s v k)) ≡ bare ((tight >> rest fresh′ (row ∷ rows) tight) .out s f nothing)
+      operand-on : place-of (after (climb rows tight .out s f nothing) (λ _ v k. (add kind 0 0 0 0 >> links row rows m) .out s v k)) ≡ place-of ((tight >> rest fresh′ (row ∷ rows) tight) .out s f nothing)
       unfolding _>>=_
-      operand-on = rw (climb-rest tight s rows f nothing, after-twice (tight .out s f nothing)) (bare-alike (tight .out s f nothing) _ _ (λ a w g i.
+      operand-on = rw (climb-rest tight s rows f nothing, after-twice (tight .out s f nothing)) (place-alike (tight .out s f nothing) _ _ (λ a w g i.
           let z = on s f nothing (omega arith) i fine in
           let j = ahead .ahead s f nothing (omega arith) i in
           let k = places in
@@ -186,27 +140,27 @@ module _ {tight : Rule (Unit {0})} (blind : Blind tight) (fine : Fine tight) (ah
     unfolding rest _>>=_ size
     first-turn rows silent = rw (rest-silent s y blank fresh tight rows silent nothing, blank nothing)
 
-    operator-here : (rows : List Row) → Each (Before row) rows → Silent fresh rows s y → bare (rest fresh (row ∷ rows) tight .out s y nothing) ≡ bare ((tight >> rest fresh′ (row ∷ rows) tight) .out s f nothing)
+    operator-here : (rows : List Row) → Each (Before row) rows → Silent fresh rows s y → place-of (rest fresh (row ∷ rows) tight .out s y nothing) ≡ place-of ((tight >> rest fresh′ (row ∷ rows) tight) .out s f nothing)
     operator-here rows ordered silent =
         let k = places in
         let l = some-turn (omega arith) in
         let q : turns-of fresh row (length s) ≡ suc (turns-of fresh row (length s) - 1) = omega arith in
-        ap bare (first-turn rows silent ∙ ap (λ n. chain (operator row) (climb rows tight) n .out s y nothing) q ∙ turn (climb rows tight) _ nothing)
+        ap place-of (first-turn rows silent ∙ ap (λ n. chain (operator row) (climb rows tight) n .out s y nothing) q ∙ turn (climb rows tight) _ nothing)
         ∙ operand-on rows _ q ordered
 
     -- looser rows above: they go on alike from the same place
-    looser-on : (a : Row) (rows : List Row) → Before a row → (q : ℕ) (h g : Held) → bare (links a rows (turns-of fresh a (length s)) .out s q h) ≡ bare (links a rows (turns-of fresh′ a (length s)) .out s q g)
-    looser-on a rows x q h g = rw (x .outer fresh (length s)) (bare-blind (links-blind a rows _) s q h g)
+    looser-on : (a : Row) (rows : List Row) → Before a row → (q : ℕ) (h g : Held) → place-of (links a rows (turns-of fresh a (length s)) .out s q h) ≡ place-of (links a rows (turns-of fresh′ a (length s)) .out s q g)
+    looser-on a rows x q h g = rw (x .outer fresh (length s)) (blind-places (links-blind a rows _) .same s q h g)
 
-    operator-at : (rows : List Row) (i : ℕ) → Ordered rows → drop i rows ≡ row ∷ drop (suc i) rows → Silent fresh (drop (suc i) rows) s y → bare (rest fresh rows tight .out s y nothing) ≡ bare ((tight >> rest fresh′ rows tight) .out s f nothing)
+    operator-at : (rows : List Row) (i : ℕ) → Ordered rows → drop i rows ≡ row ∷ drop (suc i) rows → Silent fresh (drop (suc i) rows) s y → place-of (rest fresh rows tight .out s y nothing) ≡ place-of ((tight >> rest fresh′ rows tight) .out s f nothing)
     unfolding rest _>>=_ size
     operator-at [] zero ordered found silent = let z : _≡_ {A = ℕ} 0 1 = cc in absurd (omega arith)
     operator-at [] (suc i) ordered found silent = let z : _≡_ {A = ℕ} 0 1 = cc in absurd (omega arith)
     operator-at (a ∷ rows) zero ordered found silent = let z : a ≡ row = cc in rw z (operator-here rows (rw z at (ordered .0)) silent)
     operator-at (a ∷ rows) (suc i) ordered found silent =
         let z = each-at (Before a) rows i found (ordered .0) in
-        bare-then (rest fresh rows tight .out s y nothing) ((tight >> rest fresh′ rows tight) .out s f nothing) _ _ (operator-at rows i (ordered .1) found silent) (λ _ q h g. looser-on a rows z q h g)
-        ∙ ap bare (after-twice (tight .out s f nothing) _ _)
+        place-then (rest fresh rows tight .out s y nothing) ((tight >> rest fresh′ rows tight) .out s f nothing) _ _ (operator-at rows i (ordered .1) found silent) (λ _ _ q h g. looser-on a rows z q h g)
+        ∙ ap place-of (after-twice (tight .out s f nothing) _ _)
 
 -- THE LAW: at an operator of the row at i, which no tighter row has, the rest of the ladder reads as the operand behind the operator and the rest after it
 module _ (mode : Mode) (left : ℕ) (fresh : Bool) (s : List ℕ) (y i : ℕ) {row : Row} (found : drop i (ladder mode) ≡ row ∷ drop (i + 1) (ladder mode)) (silent : Silent fresh (drop (i + 1) (ladder mode)) s y) (inside : y ≤ length s) (blank : (h : Held) → multispace0 .out s y h ≡ got tt y h) (open-row : turns-of fresh row 1 ≡ 1) {kind e f : ℕ} (sign : (h : Held) → operator row .out s y h ≡ got kind e h) (gap : (h : Held) → multispace0 .out s e h ≡ got tt f h) where
@@ -216,14 +170,8 @@ module _ (mode : Mode) (left : ℕ) (fresh : Bool) (s : List ℕ) (y i : ℕ) {r
   abbrev all-on : Bool → Rule (Unit {0})
   all-on b = rest b (ladder mode) tight
 
-  alike : (h g : Held) → bare (all-on fresh .out s y h) ≡ bare ((tight >> all-on (fresh-after fresh row)) .out s f g)
-  alike h g =
-      bare-blind (rest-blind fresh (ladder mode) (operand-blind mode left)) s y h nothing
+  pub operator-alike : (h g : Held) → place-of (all-on fresh .out s y h) ≡ place-of ((tight >> all-on (fresh-after fresh row)) .out s f g)
+  operator-alike h g =
+      blind-places (rest-blind fresh (ladder mode) (operand-blind mode left)) .same s y h nothing
       ∙ operator-at (operand-blind mode left) (operand-pays mode left) (operand-ahead mode left) s y inside blank fresh row open-row kind e f sign gap (ladder mode) i (ladder-ordered mode) (rw (add-one i) at found) (rw (add-one i) at silent)
-      ∙ bare-blind (operand-blind mode left then-blind rest-blind (fresh-after fresh row) (ladder mode) (operand-blind mode left)) s f nothing g
-
-  pub operator-fails : AlwaysFails (tight >> all-on (fresh-after fresh row)) s f → AlwaysFails (all-on fresh) s y
-  operator-fails x h = bare-fails (all-on fresh .out s y h) (alike h h ∙ ap bare (x h))
-
-  pub operator-ends : {q : ℕ} → AlwaysEnds (tight >> all-on (fresh-after fresh row)) s f q → AlwaysEnds (all-on fresh) s y q
-  operator-ends x h = bare-ends (all-on fresh .out s y h) (alike h h ∙ ap bare (x h .so))
+      ∙ blind-places (operand-blind mode left then-blind rest-blind (fresh-after fresh row) (ladder mode) (operand-blind mode left)) .same s f nothing g

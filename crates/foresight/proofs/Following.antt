@@ -1,9 +1,9 @@
 -- WHAT FOLLOWS AN OPERAND: a row is mute or has a turn, by cases on it; and where an operator stands, the flat ladder goes on behind it.
-use mathlib.Core.Path.{_≡_, refl}
+use mathlib.Core.Path.{_≡_, refl, sym}
 use Prim.Native.Nat.{ℕ, _+_, _≤_}
 use native.Mathlib.Omega.{arith}
 use mathlib.Core.List.{List, [], _∷_}
-use mathlib.Core.Bool.{Bool, true, false}
+use mathlib.Core.Bool.{Bool, true, false, false≢true}
 use mathlib.Core.Option.{Option}
 use types.Run.{OneOf, miss}
 use denote.Enum.Declared.{tagOf}
@@ -20,16 +20,16 @@ use Rattle.rules.proofs.Row as row-enum
 use Rattle.lex.specs.Contract.{went, Lexes}
 use Rattle.lex.specs.declared.Cursor.{Cursor}
 use Rattle.foresight.specs.declared.Told.{Told}
-use Rattle.foresight.specs.declared.Told.the-variants.{Nothing, Fails, Ends}
+use Rattle.foresight.specs.declared.Told.the-variants.{Ends}
 use Rattle.foresight.specs.declared.table.Column.{Column}
-use Rattle.foresight.specs.Tells.{Tells, raise, Led}
+use Rattle.foresight.specs.Tells.{Tells, Led}
 use Rattle.foresight.specs.Rest.{turns-of, fresh-after, rest, Mute, Silent, readable}
 use Rattle.foresight.specs.Next.{column-of, Stands}
 use Rattle.foresight.specs.Table.{told-of}
-use Rattle.foresight.proofs.Told as told-enum
 use Rattle.foresight.proofs.Flat.{climb-rest, after-twice, blanks-end, ladder-blanks, ladder-silent-ends, mute-comparison}
-use Rattle.foresight.proofs.FlatOn.{operator-fails, operator-ends}
-use Rattle.foresight.proofs.Led.{raised, tells-first, tells-then, tells-from, led-last}
+use Rattle.foresight.proofs.FlatOn.{operator-alike}
+use Rattle.foresight.proofs.Places.{tells-placed}
+use Rattle.foresight.proofs.Led.{raised, tells-from, led-first, led-last}
 
 -- THE ROWS: every one but `Comparison` may be read; every one below it leaves what may be read as it was
 pub not-comparison : (fresh : Bool) (row : Row) → OneOf (0 ∷ 1 ∷ 3 ∷ 4 ∷ 5 ∷ 6 ∷ 7 ∷ 8 ∷ 9 ∷ []) (tagOf row-enum.the-type row) → true ≡ readable fresh row
@@ -69,21 +69,18 @@ has-turn fresh Shift q = refl
 has-turn fresh Additive q = refl
 has-turn fresh Multiplicative q = refl
 
-apart : true ≡ false → ⊥
-apart e = let z : _≡_ {A = ℕ} 0 1 = cc in omega arith
-
 module _ (s : List ℕ) (y : ℕ) where
   pub mute-unread : (fresh : Bool) (row : Row) → readable fresh row ≡ false → Mute fresh row s y
-  mute-unread fresh LogicalOr q = absurd (apart q)
-  mute-unread fresh LogicalAnd q = absurd (apart q)
+  mute-unread fresh LogicalOr q = absurd (false≢true (sym q))
+  mute-unread fresh LogicalAnd q = absurd (false≢true (sym q))
   mute-unread fresh Comparison q = rw q (mute-comparison s y)
-  mute-unread fresh Comparisons q = absurd (apart q)
-  mute-unread fresh BitwiseOr q = absurd (apart q)
-  mute-unread fresh BitwiseXor q = absurd (apart q)
-  mute-unread fresh BitwiseAnd q = absurd (apart q)
-  mute-unread fresh Shift q = absurd (apart q)
-  mute-unread fresh Additive q = absurd (apart q)
-  mute-unread fresh Multiplicative q = absurd (apart q)
+  mute-unread fresh Comparisons q = absurd (false≢true (sym q))
+  mute-unread fresh BitwiseOr q = absurd (false≢true (sym q))
+  mute-unread fresh BitwiseXor q = absurd (false≢true (sym q))
+  mute-unread fresh BitwiseAnd q = absurd (false≢true (sym q))
+  mute-unread fresh Shift q = absurd (false≢true (sym q))
+  mute-unread fresh Additive q = absurd (false≢true (sym q))
+  mute-unread fresh Multiplicative q = absurd (false≢true (sym q))
 
   -- below the ninth row there is none; a row above silent ones
   module _ (fresh : Bool) (mode : Mode) where
@@ -123,9 +120,7 @@ module _ (mode : Mode) (s : List ℕ) where
 
       operator-tells : (b : Told) → Tells behind s past-gap b → Tells (after-operand fresh) s (y .at) b
       unfolding multispace0 pass-while
-      operator-tells Nothing t = record { true = tt }
-      operator-tells (Fails n) t = record { true = λ left l. operator-fails mode left fresh s (y .at) i (o .at) (o .tighter) (omega (arith, blank .moved .inside, inside)) (blanks-end s (x .at) (blank .said)) (has-turn fresh row (o .read)) (o .so) (λ h. refl) (t .true left l) }
-      operator-tells (Ends n q) t = record { true = λ left l. operator-ends mode left fresh s (y .at) i (o .at) (o .tighter) (omega (arith, blank .moved .inside, inside)) (blanks-end s (x .at) (blank .said)) (has-turn fresh row (o .read)) (o .so) (λ h. refl) (t .true left l) }
+      operator-tells = tells-placed (after-operand fresh) (y .at) (λ h. h) (λ left h. operator-alike mode left fresh s (y .at) i (o .at) (o .tighter) (omega (arith, blank .moved .inside, inside)) (blanks-end s (x .at) (blank .said)) (has-turn fresh row (o .read)) (o .so) (λ g. refl) h h)
 
       pub operator-led : Led (after-operand fresh) s (x .at) (Ends 0 z) (λ left. multispace0 >> behind left)
       unfolding multispace0 pass-while _>>=_
@@ -146,12 +141,4 @@ module _ (mode : Mode) where
       rw (climb-rest operand s (ladder mode) p h) (after-twice (operand .out s p h) _ _)
 
   pub expression-led : (s : List ℕ) (p : ℕ) (a : Told) → Tells (λ left. unary (levels mode left)) s p a → Led (expression mode) s p a on
-  expression-led s p Nothing x = record { go = tt }
-  expression-led s p (Fails need) x = record { go = tells-from (expression mode) p (λ h. h) (λ left h. expression-flat left s p h) (Fails need) (tells-first (λ left _. on left) x) }
-  expression-led s p (Ends need q) x = record { go = λ b y. tells-from (expression mode) p (λ h. h) (λ left h. expression-flat left s p h) (raise need b) (tells-then (λ left _. on left) x b (λ _. y)) }
-
--- a way that comes to no place tells of the whole rule
-pub led-nowhere : {rule : ℕ → Rule (Unit {0})} {s : List ℕ} {p : ℕ} {n : ℕ → Rule (Unit {0})} (a : Told) → OneOf (0 ∷ 1 ∷ []) (tagOf told-enum.the-type a) → Led rule s p a n → Tells rule s p a
-led-nowhere Nothing o w = record { true = tt }
-led-nowhere (Fails need) o w = w .go
-led-nowhere (Ends need q) o w = absurd (miss (0 ∷ 1 ∷ []) 2 tt o)
+  expression-led s p = led-first (λ left. unary (levels mode left)) on (λ left h. expression-flat left s p h)

@@ -1,6 +1,7 @@
 -- Laws of what is told, and of what a ladder reads after its first operand.
 pub mod Below
 pub mod Flat
+pub mod Places
 pub mod FlatOn
 pub mod Led
 pub mod Methods

@@ -3,10 +3,10 @@ use mathlib.Core.Path.{_≡_, refl, sym, ap, subst, _∙_}
 use Prim.Native.Nat.{ℕ, zero, suc, _+_, _≤_, _<_, max}
 use native.Mathlib.Omega.{arith}
 use mathlib.Core.List.{List, [], _∷_}
-use types.Run.{OneOf, miss}
+use types.Run.{OneOf}
 use denote.Enum.Declared.{tagOf}
-use Rattle.rules.specs.Rule.{Held, Out, got, fail, deep, Rule, after, span, give, done, _>>=_, _>>_}
-use Rattle.rules.specs.Bytes.{token}
+use Rattle.rules.specs.Rule.{Held, Out, got, fail, deep, Rule, after, span, give, done, add, tag, _>>=_, _>>_}
+use Rattle.rules.specs.Bytes.{skip, tag-skip, skip-tag, skip-tag-skip, token}
 use Rattle.rules.specs.Expressions.{levels, expression}
 use Rattle.rules.specs.declared.Mode.{Mode}
 use Rattle.rules.specs.declared.Token.{Token}
@@ -17,10 +17,10 @@ use Rattle.lex.specs.Contract.{went, lost, Lexes}
 use Rattle.lex.specs.declared.Cursor.{Cursor}
 use Rattle.foresight.specs.declared.Told.{Told}
 use Rattle.foresight.specs.declared.Told.the-variants.{Nothing, Fails, Ends}
-use Rattle.foresight.specs.Tells.{Ended, AlwaysFails, AlwaysEnds, Tells, raise, Deeper, Led, Passes, PassesToken, Failure}
+use Rattle.foresight.specs.Tells.{Ended, AlwaysFails, AlwaysEnds, Tells, raise, Deeper, Passes, PassesToken, Failure}
 use Rattle.foresight.specs.Marks.{Marks}
 use Rattle.foresight.proofs.Told.{the-type}
-use Rattle.foresight.proofs.Led.{raised, tells-first, tells-then, tells-from, led-bytes, led-lost}
+use Rattle.foresight.proofs.Led.{raised, tells-known, led-known, tells-first, tells-then, tells-from, led-stays, led-by, led-assoc, led-bytes, led-lost}
 
 -- MORE LEVELS
 module _ {a : Told} {n : ℕ} (e : a ≡ Fails n) (need : ℕ) where
@@ -37,11 +37,6 @@ module _ {a : Told} {n x : ℕ} (e : a ≡ Ends n x) (need : ℕ) where
   pub ends-as-was : need ≤ n → Ends n x ≡ raise need a
   ends-as-was l = ap (λ k. Ends k x) (let z : n ≡ max need n = omega arith in z) ∙ ap (raise need) (sym e)
 
-pub raise-none : (b : Told) → b ≡ raise 0 b
-raise-none Nothing = refl
-raise-none (Fails n) = ap Fails (omega arith)
-raise-none (Ends n x) = ap (λ k. Ends k x) (omega arith)
-
 raise-twice : (need n : ℕ) (b : Told) → raise need (raise n b) ≡ raise (max need n) b
 raise-twice need n Nothing = refl
 raise-twice need n (Fails k) = ap Fails (let z : max need (max n k) ≡ max (max need n) k = omega arith in z)
@@ -52,14 +47,14 @@ pub deeper-nothing : (a : Told) → Deeper a Nothing
 deeper-nothing a m d s p q x = record { true = tt }
 
 pub deeper-fails : {a : Told} {n : ℕ} → a ≡ Fails n → Deeper a (Fails (n + 1))
-deeper-fails {n = n} e m d s p q x = record { true = go (subst (Tells m s p) e x) }
+deeper-fails {n = n} e m d s p q x = record { true = go (tells-known e x) }
   where
     go : Tells m s p (Fails n) → (left : ℕ) → n + 1 ≤ left → AlwaysFails (d left) s p
     go y zero l = absurd (omega arith)
     go y (suc k) l = subst (λ r. AlwaysFails r s p) (sym (q k)) (y .true k (omega arith))
 
 pub deeper-ends : {a : Told} {n e : ℕ} → a ≡ Ends n e → Deeper a (Ends (n + 1) e)
-deeper-ends {n = n} {e} known m d s p q x = record { true = go (subst (Tells m s p) known x) }
+deeper-ends {n = n} {e} known m d s p q x = record { true = go (tells-known known x) }
   where
     go : Tells m s p (Ends n e) → (left : ℕ) → n + 1 ≤ left → AlwaysEnds (d left) s p e
     go y zero l = absurd (omega arith)
@@ -70,21 +65,13 @@ pub inner-told : (mode : Mode) (s : List ℕ) (x : ℕ) {a b : Told} → Tells (
 unfolding levels expression
 inner-told mode s x told deeper = deeper _ _ s x (λ left. refl) told
 
--- the way to what is known to be told
-led-known : {rule : ℕ → Rule (Unit {0})} {s : List ℕ} {p : ℕ} {a b : Told} {n : ℕ → Rule (Unit {0})} → a ≡ b → Led rule s p a n → Led rule s p b n
-led-known {rule} {s} {p} {n = n} e w = subst (λ t. Led rule s p t n) e w
-
 -- WHERE NO END IS TOLD
 module _ {s : List ℕ} where
   pub stays : (k : ℕ → Rule (Unit {0})) (a : Told) → OneOf (0 ∷ 1 ∷ []) (tagOf the-type a) → Passes k s a a
-  stays k Nothing o rule p n w = record { go = tt }
-  stays k (Fails need) o rule p n w = record { go = w .go }
-  stays k (Ends need x) o rule p n w = absurd (miss (0 ∷ 1 ∷ []) 2 tt o)
+  stays k a o rule p n w = led-stays a o w
 
   pub stays-token : (a : Told) → OneOf (0 ∷ 1 ∷ []) (tagOf the-type a) → PassesToken s a a
-  stays-token Nothing o rule p n w = record { name = span 0 0; led = record { go = tt } }
-  stays-token (Fails need) o rule p n w = record { name = span 0 0; led = record { go = w .go } }
-  stays-token (Ends need x) o rule p n w = absurd (miss (0 ∷ 1 ∷ []) 2 tt o)
+  stays-token a o rule p n w = record { name = span 0 0; led = led-stays a o w }
 
   -- PAST BYTES
   module _ {a : Told} {need : ℕ} (c : Cursor) (e : a ≡ Ends need (c .at)) where
@@ -99,10 +86,33 @@ module _ {s : List ℕ} where
     passes-raised : (b : Told) → Tells k s x b → Passes k s (Ends need x) (raise need b)
     passes-raised Nothing told rule p n w = record { go = tt }
     passes-raised (Fails m) told rule p n w = record { go = w .go (Fails m) (tells-first (λ left _. n left) told) }
-    passes-raised (Ends m q) told rule p n w = record { go = λ b y. subst (Tells rule s p) (raise-twice need m b) (w .go (raise m b) (tells-then (λ left _. n left) told b (λ _. y))) }
+    passes-raised (Ends m q) told rule p n w = record { go = λ b y. tells-known (raise-twice need m b) (w .go (raise m b) (tells-then (λ left _. n left) told b (λ _. y))) }
 
     pub passes-told : {a b r : Told} → a ≡ Ends need x → Tells k s x b → r ≡ raise need b → Passes k s a r
     passes-told {b = b} e told q rule p n w = led-known (sym q) (passes-raised b told rule p n (led-known e w))
+
+-- PAST ONE PART and then another; past a record that is added
+module _ {s : List ℕ} where
+  pub passes-both : {a b c : Told} (j k : ℕ → Rule (Unit {0})) → Passes j s a b → Passes k s b c → Passes (λ left. j left >> k left) s a c
+  passes-both {a} j k x y rule p n w = y rule p n (x rule p (λ left. k left >> n left) (led-assoc j (λ left _. k left) (λ left _. n left) a w))
+
+  pub passes-add : {t : Told} (kind a b c d : ℕ) → Passes (λ left. add kind a b c d) s t t
+  unfolding add _>>=_
+  passes-add {t} kind a b c d rule p n w = led-by {r = λ left. add kind a b c d >> n left} n (λ x r y. tells-from _ x _ (λ left h. refl) r y) t w
+
+  -- past a text, and what is skipped after it, before it or on both sides
+  module _ {a b c : Told} (w : List ℕ) where
+    pub passes-tag-skip : Passes (λ left. tag w) s a b → Passes (λ left. skip) s b c → Passes (λ left. tag-skip w) s a c
+    unfolding tag-skip
+    passes-tag-skip x y = passes-both _ _ x y
+
+    pub passes-skip-tag : Passes (λ left. skip) s a b → Passes (λ left. tag w) s b c → Passes (λ left. skip-tag w) s a c
+    unfolding skip-tag
+    passes-skip-tag x y = passes-both _ _ x y
+
+    pub passes-skip-tag-skip : {d : Told} → Passes (λ left. skip) s a b → Passes (λ left. tag w) s b c → Passes (λ left. skip) s c d → Passes (λ left. skip-tag-skip w) s a d
+    unfolding skip-tag-skip
+    passes-skip-tag-skip x y z = passes-both _ _ x (passes-both _ _ y z)
 
 -- A TOKEN THAT IS TOLD OF is the same whatever is held
 record TokenTo (s : List ℕ) (x q : ℕ) : Type 0 where
@@ -141,7 +151,7 @@ module _ {s : List ℕ} {x : ℕ} where
         let read = token-ends told in
         record {
           name = read .name;
-          led = record { go = λ b y. subst (Tells rule s p) (raise-twice need m b) (w .go (raise m b) (tells-from _ x (read .with-held) (λ left h. rw (read .so h)) (raise m b) (raised m b y))) };
+          led = record { go = λ b y. tells-known (raise-twice need m b) (w .go (raise m b) (tells-from _ x (read .with-held) (λ left h. rw (read .so h)) (raise m b) (raised m b y))) };
         }
 
     pub passes-token : {a b r : Told} → a ≡ Ends need x → Tells (λ left. token >> done) s x b → r ≡ raise need b → PassesToken s a r
@@ -161,4 +171,4 @@ pub no-mark : (a : Told) → Marks a 0
 no-mark a m s p told left h some few = absurd (omega arith)
 
 pub mark-of-failure : {a : Told} {need : ℕ} → a ≡ Fails need → Marks a (need + 1)
-mark-of-failure e m s p told left h some few = subst (Tells m s p) e told .true left (omega arith) h
+mark-of-failure e m s p told left h some few = tells-known e told .true left (omega arith) h

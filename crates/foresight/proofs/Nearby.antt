@@ -15,8 +15,8 @@ use Rattle.foresight.specs.declared.Told.the-variants.{Fails, Ends}
 use Rattle.foresight.specs.Tells.{Tells}
 use Rattle.foresight.specs.First.{FirstAt}
 use Rattle.foresight.specs.Near.{PlainTo, NearTo}
-use Rattle.foresight.proofs.Led.{lexes-ends, lexes-fails}
-use Rattle.foresight.proofs.Skipped.{first-stands, cursor-at}
+use Rattle.foresight.proofs.Led.{cursor-at, lexes-ends, lexes-fails}
+use Rattle.foresight.proofs.Skipped.{first-stands}
 
 -- NO TEXT STANDS at the script's end
 pub first-behind : (w s : List ℕ) (x : ℕ) → length s ≤ x → FirstAt w s x (length s)

@@ -1,58 +1,31 @@
 -- PARTS OF A RULE that follow one another are passed one after another, and so a whole rule is told of.
 use mathlib.Core.Path.{refl}
 use Prim.Native.Nat.{ℕ}
-use mathlib.Core.List.{List, [], _∷_}
-use mathlib.Core.Bool.{true, false}
-use Rattle.rules.specs.Rule.{Rule, give, add, opt, is-some, if_then_else_, tag, word, _>>=_, _>>_}
-use Rattle.rules.specs.Bytes.{multispace0, skip, tag-skip, word-skip, skip-tag-skip, skip-word-skip, token}
+use mathlib.Core.List.{List}
+use Rattle.rules.specs.Rule.{Rule, give, here, add, opt, is-some, if_then_else_, word, _>>=_, _>>_}
+use Rattle.rules.specs.Bytes.{multispace0, word-skip, skip-word-skip, token}
 use Rattle.rules.specs.Expressions.{assert, assert-message}
 use Rattle.rules.specs.declared.Token.{Token}
 use Rattle.lex.specs.Contract.{Lexes, went, lost}
 use Rattle.lex.specs.declared.Cursor.{Cursor}
-use Rattle.lex.proofs.Lexes.{here-at, opt-some, opt-none}
-use types.Run.{OneOf, miss}
-use denote.Enum.Declared.{tagOf}
-use Rattle.foresight.proofs.Told.{the-type}
+use Rattle.lex.proofs.Lexes.{opt-some, opt-none}
 use Rattle.foresight.specs.declared.Told.{Told}
 use Rattle.foresight.specs.declared.Told.the-variants.{Nothing, Fails, Ends}
 use Rattle.foresight.specs.Tells.{Tells, Led, Passes, PassesToken, PassesMessage}
-use Rattle.foresight.proofs.Led.{led-start, led-same, led-assoc, led-add, led-added, led-bytes, if-so, if-not}
-
--- one part, and then another
-pub passes-both : {s : List ℕ} {a b c : Told} (j k : ℕ → Rule (Unit {0})) → Passes j s a b → Passes k s b c → Passes (λ left. j left >> k left) s a c
-passes-both {a = a} j k x y rule p n w = y rule p n (x rule p (λ left. k left >> n left) (led-assoc j (λ left _. k left) (λ left _. n left) a w))
-
--- a record is passed where it is added
-pub passes-add : {s : List ℕ} {t : Told} (kind a b c d : ℕ) → Passes (λ left. add kind a b c d) s t t
-passes-add {t = t} kind a b c d rule p n w = led-add kind a b c d n t w
-
--- bytes, and what is skipped after them, or on both sides
-module _ {s : List ℕ} {a b c : Told} (w : List ℕ) where
-  pub passes-tag-skip : Passes (λ left. tag w) s a b → Passes (λ left. skip) s b c → Passes (λ left. tag-skip w) s a c
-  unfolding tag-skip
-  passes-tag-skip x y = passes-both _ _ x y
-
-  pub passes-skip-tag-skip : {d : Told} → Passes (λ left. skip) s a b → Passes (λ left. tag w) s b c → Passes (λ left. skip) s c d → Passes (λ left. skip-tag-skip w) s a d
-  unfolding skip-tag-skip
-  passes-skip-tag-skip x y z = passes-both _ _ x (passes-both _ _ y z)
+use Rattle.foresight.proofs.Led.{tells-from, led-start, led-same, led-assoc, led-last, led-done, led-added, led-bytes, led-so, led-not}
+use Rattle.foresight.proofs.Methods.{passes-add}
 
 -- blanks and the bracket that closes, with one record more
 pub closes : {rule : ℕ → Rule (Unit {0})} {s : List ℕ} {p : ℕ} {v b r : Told} (kind a c d e : ℕ) → Passes (λ left. multispace0) s v b → Passes (λ left. word ")") s b r → Led rule s p v (λ left. multispace0 >> (word ")" >> add kind a c d e)) → Tells rule s p r
 closes kind a c d e x y w = led-added kind a c d e _ (y _ _ _ (x _ _ _ w))
 
--- what is not told to end is told of the whole
-pub led-stopped : {rule rest : ℕ → Rule (Unit {0})} {s : List ℕ} {p : ℕ} (a : Told) → OneOf (0 ∷ 1 ∷ []) (tagOf the-type a) → Led rule s p a rest → Tells rule s p a
-led-stopped Nothing k w = record { true = tt }
-led-stopped (Fails need) k w = w .go
-led-stopped (Ends need x) k w = absurd (miss (0 ∷ 1 ∷ []) 2 tt k)
-
 -- bytes that may be missing, and what follows them or stands in their place
 module _ {rule : ℕ → Rule (Unit {0})} {s : List ℕ} {p need : ℕ} {m : Rule (Unit {0})} (yes no : ℕ → Rule (Unit {0})) (c : Cursor) (w : Led rule s p (Ends need (c .at)) (λ left. opt m >>= (λ found. if is-some found then yes left else no left))) where
   pub led-there : {d : Cursor} → Lexes m s c (went tt d) → Led rule s p (Ends need (d .at)) yes
-  led-there x = led-same yes (λ left y h. if-so true (yes left) (no left) s y h refl) _ (led-bytes _ c w (opt-some x))
+  led-there x = led-so yes no _ (led-bytes _ c w (opt-some x)) refl
 
   pub led-missing : Lexes m s c lost → Led rule s p (Ends need (c .at)) no
-  led-missing x = led-same no (λ left y h. if-not false (yes left) (no left) s y h refl) _ (led-bytes _ c w (opt-none x))
+  led-missing x = led-not yes no _ (led-bytes _ c w (opt-none x)) refl
 
 -- a message between two texts: the second one, behind which the message is given; and the whole
 bracketed : {rule : ℕ → Rule (Unit {0})} {s : List ℕ} {p : ℕ} {a b : Told} (n : ℕ → Token → Rule (Unit {0})) → Passes (λ left. skip-word-skip ")") s a b → (t : Token) → Led rule s p a (λ left. (skip-word-skip ")" >> give t) >>= n left) → Led rule s p b (λ left. n left t)
@@ -68,9 +41,26 @@ passes-message {a = a} {b} comma text bracket rule p n w =
     behind : Token → Rule Token
     behind t = skip-word-skip ")" >> give t
 
+-- past the place that a rule asks for, whichever it is
+record SomePlace (rule : ℕ → Rule (Unit {0})) (s : List ℕ) (p : ℕ) (a : Told) (n : ℕ → ℕ → Rule (Unit {0})) : Type 0 where
+  place : ℕ
+  led : Led rule s p a (λ left. n left place)
+
+led-here : {rule : ℕ → Rule (Unit {0})} {s : List ℕ} {p : ℕ} (n : ℕ → ℕ → Rule (Unit {0})) (a : Told) → Led rule s p a (λ left. here >>= n left) → SomePlace rule s p a n
+unfolding here _>>=_
+led-here n Nothing w = record { place = 0; led = record { go = tt } }
+led-here n (Fails need) w = record { place = 0; led = record { go = w .go } }
+led-here n (Ends need x) w = record { place = x; led = record { go = λ b y. w .go b (tells-from _ x (λ h. h) (λ left h. refl) b y) } }
+
 -- ASSERT, whose record keeps the place that it begins at
-pub asserts : {s : List ℕ} {x : ℕ} {a b r : Told} (kind : ℕ) (expression : ℕ → Rule (Unit {0})) → Passes (λ left. word-skip "(") s (Ends 0 x) a → Passes expression s a b → PassesMessage s b r → Tells (λ left. assert kind (expression left)) s x r
+pub passes-assert : {s : List ℕ} {a b c d : Told} (kind : ℕ) (expression : ℕ → Rule (Unit {0})) → Passes (λ left. word-skip "(") s a b → Passes expression s b c → PassesMessage s c d → Passes (λ left. assert kind (expression left)) s a d
 unfolding assert
-asserts {x = x} kind expression opened value message =
-    let t = message _ x (λ left t. add kind (t .start) (t .len) x 0) (value _ x _ (opened _ x _ (led-bytes (λ left bracket. word-skip "(" >> (expression left >> (assert-message >>= (λ t. add kind (t .start) (t .len) bracket 0)))) (record { at = x; count = 0 }) led-start here-at))) in
-    led-added kind (t .name .start) (t .name .len) x 0 _ (t .led)
+passes-assert {a = a} {b} {c} kind expression opened value message rule p n w =
+    let placed = led-here _ a (led-assoc _ _ _ a w) in
+    let at-value = opened _ _ _ (led-assoc _ _ _ a (placed .led)) in
+    let at-message = value _ _ _ (led-assoc _ _ _ b at-value) in
+    let t = message _ _ _ (led-assoc _ _ _ c at-message) in
+    passes-add kind (t .name .start) (t .name .len) (placed .place) 0 rule p n (t .led)
+
+pub asserts : {s : List ℕ} {x : ℕ} {a b r : Told} (kind : ℕ) (expression : ℕ → Rule (Unit {0})) → Passes (λ left. word-skip "(") s (Ends 0 x) a → Passes expression s a b → PassesMessage s b r → Tells (λ left. assert kind (expression left)) s x r
+asserts {x = x} kind expression opened value message = led-done _ (passes-assert kind expression opened value message _ _ _ (led-last (λ left. assert kind (expression left)) (Ends 0 x) led-start))

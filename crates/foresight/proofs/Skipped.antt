@@ -18,13 +18,12 @@ use Rattle.rules.proofs.Bytes.{comment-ahead}
 use Rattle.rules.proofs.Independent.{skip-blind}
 use Rattle.rules.proofs.Turns.{skipping-enough}
 use Rattle.lex.specs.Contract.{went, lost, Lexes}
-use Rattle.lex.specs.declared.Cursor.{Cursor}
 use Rattle.lex.proofs.Lexes.{then-on, stop, chosen, passed-over, given, sized, asked, tag-read, until-lost, until-read, run-over}
 use Rattle.foresight.specs.declared.Told.{Told}
 use Rattle.foresight.specs.declared.Told.the-variants.{Fails, Ends}
 use Rattle.foresight.specs.Tells.{Tells}
 use Rattle.foresight.specs.First.{FirstAt}
-use Rattle.foresight.proofs.Led.{tells-from, lexes-ends, lexes-fails}
+use Rattle.foresight.proofs.Led.{cursor-at, tells-from, lexes-ends, lexes-fails}
 
 -- WHERE A TEXT FIRST STANDS: here; or where it does from the next byte on
 module _ (w s : List ℕ) (x : ℕ) where
@@ -73,9 +72,6 @@ no-run t a z v (b ∷ l) e = go (eqb b a) refl e
     go : (q : Bool) → eqb b a ≡ q → cond q (begins v l) false ≡ true → cond (t b) (suc (run t l)) 0 ≡ 0
     go true u x = rw (eqb→eq b a (subst T (sym u) tt), z)
     go false u x = absurd (false≢true x)
-
-abbrev pub cursor-at : ℕ → Cursor
-cursor-at x = record { at = x; count = 0 }
 
 -- A TURN: behind the first comment one turn less is enough
 one-less : (s : List ℕ) (y : ℕ) → 1 ≤ y → y ≤ length s → (n : ℕ) → length s ≡ n → skipping n .out s y nothing ≡ skip .out s y nothing

@@ -66,9 +66,6 @@ all-silent mode s none = record {
 pub unmarked : (mode : Mode) (s : List ℕ) → Marked mode s []
 unmarked mode s = all-silent mode s (λ i. refl)
 
-pub unmarked-by : (mode : Mode) (s : List ℕ) {marks : List ℕ} → length marks ≡ 0 → Marked mode s marks
-unmarked-by mode s {marks} e = all-silent mode s (λ i. List·getD-eq-default marks 0 (omega arith))
-
 pub zeros : (mode : Mode) (s : List ℕ) (n : ℕ) → Marked mode s (replicate n 0)
 zeros mode s n = all-silent mode s (zero-at n)
   where

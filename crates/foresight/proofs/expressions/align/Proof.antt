@@ -1,5 +1,4 @@
 -- The comma is there or not, and each part of the code passes the next part of the rule.
-use mathlib.Core.Path.{subst}
 use Prim.Native.Nat.{ℕ}
 use Rattle.rules.specs.Rule.{Rule, opt, is-some, if_then_else_, add, word, _>>=_, _>>_}
 use Rattle.rules.specs.Bytes.{multispace0}
@@ -10,8 +9,8 @@ use borrow.Author.Needs.{needs}
 use Rattle.foresight.specs.declared.Told.{Told}
 use Rattle.foresight.specs.declared.Told.the-variants.{Ends}
 use Rattle.foresight.specs.Tells.{Led}
-use Rattle.foresight.proofs.Led.{led-start, led-added}
-use Rattle.foresight.proofs.Parts.{closes, led-stopped, led-there, led-missing}
+use Rattle.foresight.proofs.Led.{led-known, led-start, led-stopped, led-added}
+use Rattle.foresight.proofs.Parts.{closes, led-there, led-missing}
 use Rattle.foresight.proofs.expressions.align.Statement.{statement}
 use Rattle.foresight.proofs.expressions.align.Tie as tie
 
@@ -33,7 +32,7 @@ unfolding align-rule
 at-first c = c .blanks .ensures _ _ _ (c .before .inner .ensures _ _ _ (c .before .before .word .ensures _ _ _ led-start))
 
 at-comma : (c : tie.After-first) → Along (c .before .before .before .before .before .before .before .before) (Ends (c .first .given .0 .0) (c .first .given .0 .1 .0)) (choice (c .before .before .before .before .before .before .before .before))
-at-comma c = subst (λ a. Along (c .before .before .before .before .before .before .before .before) a (choice (c .before .before .before .before .before .before .before .before))) (c .first .given .1) (at-first (c .before .before))
+at-comma c = led-known (c .first .given .1) (at-first (c .before .before))
 
 pub align-spec : {M : Type 1} → statement M
 align-spec =

@@ -1,6 +1,7 @@
 -- The bracket, the expression and what follows it are passed, and the record is added last.
 use borrow.Author.Needs.{needs}
-use Rattle.foresight.proofs.Parts.{passes-tag-skip, asserts}
+use Rattle.foresight.proofs.Methods.{passes-tag-skip}
+use Rattle.foresight.proofs.Parts.{asserts}
 use Rattle.foresight.proofs.expressions.asserted.Statement.{statement}
 use Rattle.foresight.proofs.expressions.asserted.Tie as tie
 

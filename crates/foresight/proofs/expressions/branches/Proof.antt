@@ -1,7 +1,7 @@
 -- Each part of the code passes the next part of the rule; the record is passed where it is added.
 use Rattle.rules.specs.Expressions.{branches as branches-rule}
 use borrow.Author.Needs.{needs}
-use Rattle.foresight.proofs.Parts.{passes-both, passes-add}
+use Rattle.foresight.proofs.Methods.{passes-both, passes-add}
 use Rattle.foresight.proofs.expressions.branches.Statement.{statement}
 use Rattle.foresight.proofs.expressions.branches.Tie as tie
 

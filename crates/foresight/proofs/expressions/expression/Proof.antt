@@ -1,5 +1,4 @@
 -- The first operand is told of, and what follows it is read after it: the flat ladder, and `?` with its branches where it stands.
-use mathlib.Core.Path.{subst}
 use borrow.Author.Needs.{needs}
 use Rattle.rules.specs.Rule.{_>>=_, if_then_else_, opt, word}
 use Rattle.rules.specs.Expressions as rule
@@ -8,8 +7,8 @@ use Rattle.lex.proofs.Lexes.{known, opt-some, opt-none}
 use Rattle.foresight.specs.declared.Told.{Told}
 use Rattle.foresight.specs.declared.Told.the-variants.{Ends}
 use Rattle.foresight.specs.Tells.{Led}
-use Rattle.foresight.proofs.Led.{led-bytes, led-last, led-done}
-use Rattle.foresight.proofs.Following.{asked, expression-led, led-nowhere}
+use Rattle.foresight.proofs.Led.{led-known, led-stopped, led-bytes, led-last, led-done}
+use Rattle.foresight.proofs.Following.{asked, expression-led}
 use Rattle.foresight.proofs.expressions.expression.Statement.{statement}
 use Rattle.foresight.proofs.expressions.expression.Tie as tie
 
@@ -23,7 +22,7 @@ at-blanks c =
     c .blanks .ensures _ _ _ (c .before .reads .ensures _ _ _ (expression-led (start .args .mode) (start .args .script .now) (start .args .x) (start .args .first) (start .pre .1)))
 
 at-climbed : (c : tie.After-climbed) → Climbed (c .before .before .before .before .before .before) (Ends (c .climbed .given .0 .0) (c .climbed .given .0 .1 .0))
-at-climbed c = subst (Climbed (c .before .before .before .before .before .before)) (c .climbed .given .1) (at-blanks (c .before .before))
+at-climbed c = led-known (c .climbed .given .1) (at-blanks (c .before .before))
 
 pub expression-spec : {M : Type 1} → statement M
 unfolding if_then_else_
@@ -33,7 +32,7 @@ expression-spec =
     (λ c κs. c .before .before .pre .0)
     (λ c κs. search needs)
     (λ c. search needs)
-    (λ c. led-nowhere _ (c .match .keys2) (at-blanks (c .before)))
+    (λ c. led-stopped _ (c .match .keys2) (at-blanks (c .before)))
     (λ c. search needs)
     (λ c κs. search needs)
     (λ c. search needs)

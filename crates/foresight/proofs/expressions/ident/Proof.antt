@@ -6,12 +6,13 @@ use Rattle.lex.specs.Contract.{Lexes, went, taken}
 use Rattle.lex.proofs.Lexes.{known, asked, keyed}
 use Rattle.lex.proofs.Name.{identifier-bytes}
 use Rattle.keywords.proofs.Names.{dot, no-dot}
+use Rattle.foresight.proofs.Led.{cursor-at}
 use Rattle.foresight.proofs.Operand.{nameless, counter-told, function-told, symbol-told}
 use borrow.Author.Needs.{needs}
 use Rattle.foresight.proofs.expressions.ident.Statement.{statement}
 use Rattle.foresight.proofs.expressions.ident.Tie as tie
 
-name-read : (c : tie.After-name) → Lexes identifier (c .before .before .before .before .before .args .script .now) (record { at = c .before .before .before .before .before .args .x; count = 0 }) (went (c .name .given .0 .0) (c .name .given .0 .1 .0))
+name-read : (c : tie.After-name) → Lexes identifier (c .before .before .before .before .before .args .script .now) (cursor-at (c .before .before .before .before .before .args .x)) (went (c .name .given .0 .0) (c .name .given .0 .1 .0))
 name-read c = known taken (c .before .before .identifier .ensures) (c .name .given .1)
 
 key-read : (c : tie.After-keyword) → Lexes (keyword (c .before .before .before .name .given .0 .0)) (c .before .before .before .before .before .before .before .before .args .script .now) (c .before .before .before .name .given .0 .1 .0) (went (c .keyword .result) (c .before .before .before .name .given .0 .1 .0))

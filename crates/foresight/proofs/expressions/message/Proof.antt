@@ -1,6 +1,7 @@
 -- Two texts with what is skipped around them, and the message between them.
 use borrow.Author.Needs.{needs}
-use Rattle.foresight.proofs.Parts.{passes-skip-tag-skip, passes-message}
+use Rattle.foresight.proofs.Methods.{passes-skip-tag-skip}
+use Rattle.foresight.proofs.Parts.{passes-message}
 use Rattle.foresight.proofs.expressions.message.Statement.{statement}
 use Rattle.foresight.proofs.expressions.message.Tie as tie
 

@@ -5,7 +5,8 @@ use Rattle.operators.specs.Answers.{operated}
 use Rattle.rules.specs.Expressions.{expression}
 use Rattle.rules.specs.Contents.{assignment}
 use Rattle.foresight.specs.Tells.{SomeToken}
-use Rattle.foresight.proofs.Contents.{led-known, led-nowhere, set-behind, set-named, set-lost, set-told}
+use Rattle.foresight.proofs.Led.{led-known, led-stopped}
+use Rattle.foresight.proofs.Contents.{set-behind, set-named, set-lost, set-told}
 use Rattle.foresight.proofs.items.set.Statement.{statement}
 use Rattle.foresight.proofs.items.set.Tie as tie
 
@@ -24,7 +25,7 @@ set-spec =
     (λ c. record { true = tt })
     (λ c κs. c .before .before .before .before .before .pre .0)
     (λ c. search needs)
-    (λ c. led-nowhere (c .before .reads .result) (c .match .keys2) (at-behind (c .before) .led))
+    (λ c. led-stopped (c .before .reads .result) (c .match .keys2) (at-behind (c .before) .led))
     (λ c κs. search needs)
     (λ c. search needs)
     (λ c. search needs)

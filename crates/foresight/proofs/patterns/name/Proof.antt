@@ -6,7 +6,7 @@ use borrow.Author.Tests.{not-true, not-false}
 use Rattle.rules.specs.Bytes.{is-pattern}
 use Rattle.rules.proofs.Text.{run-end, run-stop}
 use lib.ListN.{getD}
-use Rattle.foresight.proofs.Operand.{told-as}
+use Rattle.foresight.proofs.Led.{tells-known}
 use Rattle.foresight.proofs.Bracketed.{name-lost, name-last, name-behind}
 use Rattle.foresight.proofs.patterns.name.Statement.{statement}
 use Rattle.foresight.proofs.patterns.name.Tie as tie
@@ -28,4 +28,4 @@ name-spec =
     (λ c. search needs)
     (λ c. name-behind _ _ (c .before .before .before .before .before .if1 .left) (a-byte (c .before .before)) _ (c .match .keys2) (c .before .look .ensures))
     (λ c. search needs)
-    (λ c. name-last _ _ (c .before .before .before .before .before .before .before .if1 .left) (a-byte (c .before .before .before .before)) (told-as (c .before .before .before .look .ensures) (c .before .behind .given .1))))
+    (λ c. name-last _ _ (c .before .before .before .before .before .before .before .if1 .left) (a-byte (c .before .before .before .before)) (tells-known (c .before .behind .given .1) (c .before .before .before .look .ensures))))

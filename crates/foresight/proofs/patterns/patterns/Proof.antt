@@ -4,6 +4,7 @@ use Rattle.rules.specs.Rule.{word}
 use Rattle.lex.specs.Contract.{Lexes, lost, read}
 use Rattle.lex.proofs.Lexes.{known}
 use Rattle.operators.specs.Answers.{operated}
+use Rattle.foresight.proofs.Led.{cursor-at}
 use Rattle.foresight.proofs.Bracketed.{sort-word, unsorted, sorted-by, list-closed, list-told}
 use Rattle.foresight.proofs.patterns.patterns.Statement.{statement}
 use Rattle.foresight.proofs.patterns.patterns.Tie as tie
@@ -11,10 +12,10 @@ use Rattle.foresight.proofs.patterns.patterns.Tie as tie
 abbrev begun : tie.After-sign-of-three → tie.Start
 begun c = c .before .before .before .before .before .before .before .before .before .before
 
-no-bracket : (c : tie.After-sign-of-three) → Lexes (word ")") (begun c .args .script .now) (record { at = begun c .args .x; count = 0 }) lost
+no-bracket : (c : tie.After-sign-of-three) → Lexes (word ")") (begun c .args .script .now) (cursor-at (begun c .args .x)) lost
 no-bracket c = known read (c .before .before .before .before .before .before .word .ensures) (c .before .before .before .before .enum-told .given .1)
 
-sort-said : (c : tie.After-sign-of-three) → Lexes sort-word (begun c .args .script .now) (record { at = begun c .args .x; count = 0 }) (operated (c .sign-of-three .result))
+sort-said : (c : tie.After-sign-of-three) → Lexes sort-word (begun c .args .script .now) (cursor-at (begun c .args .x)) (operated (c .sign-of-three .result))
 sort-said c = c .sign-of-three .ensures
 
 pub patterns-spec : {M : Type 1} → statement M

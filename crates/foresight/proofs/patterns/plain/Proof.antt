@@ -2,7 +2,8 @@
 use mathlib.Core.Path.{ap, _∙_}
 use borrow.Author.Needs.{needs}
 use Rattle.foresight.specs.declared.Told.the-variants.{Ends}
-use Rattle.foresight.proofs.Bracketed.{plain-stopped, plain-told}
+use Rattle.foresight.proofs.Led.{led-stopped}
+use Rattle.foresight.proofs.Bracketed.{plain-begun, plain-told}
 use Rattle.foresight.proofs.patterns.plain.Statement.{statement}
 use Rattle.foresight.proofs.patterns.plain.Tie as tie
 
@@ -14,7 +15,7 @@ plain-spec =
     tie.close
     (tie.spec
     (λ c. search needs)
-    (λ c. plain-stopped (c .before .before .before .pre .1 .0) (c .match .keys2))
+    (λ c. led-stopped _ (c .match .keys2) (plain-begun (c .before .before .before .pre .1 .0)))
     (λ c. record { true = tt })
     (λ c κs. search needs)
     (λ c κs. begun (c .before .before .before) .pre .0)

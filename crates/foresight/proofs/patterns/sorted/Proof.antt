@@ -1,7 +1,8 @@
 -- No second sort word stands behind the bracket, and what follows the name is told alike whichever it is.
 use mathlib.Core.Path.{sym, _∙_}
 use borrow.Author.Needs.{needs}
-use Rattle.foresight.proofs.Bracketed.{sorted-stopped, sorted-twice, sorted-told}
+use Rattle.foresight.proofs.Led.{led-stopped}
+use Rattle.foresight.proofs.Bracketed.{sorted-begun, sorted-twice, sorted-told}
 use Rattle.foresight.proofs.patterns.sorted.Statement.{statement}
 use Rattle.foresight.proofs.patterns.sorted.Tie as tie
 
@@ -16,7 +17,7 @@ sorted-spec =
     (λ c. search needs)
     (λ c κs. search needs)
     (λ c. search needs)
-    (λ c. sorted-stopped _ (c .before .before .before .reads .ensures) (c .before .word .ensures) (c .match .keys2))
+    (λ c. led-stopped _ (c .match .keys2) (sorted-begun _ (c .before .before .before .reads .ensures) (c .before .word .ensures)))
     (λ c. search needs)
     (λ c κs. search needs)
     (λ c. sorted-twice _ (c .before .before .before .before .before .before .before .before .reads .ensures) (c .before .before .before .before .before .before .word .ensures) (c .before .before .before .before .opened .given .1) (sym (c .before .starts .ensures) ∙ c .if1 .taken))
