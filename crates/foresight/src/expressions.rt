@@ -204,13 +204,7 @@ fn within(script: &[u8], class: Class, x: usize) -> bool {
     if x == 0 {
         return false;
     }
-    if script.len() <= x {
-        return false;
-    }
-    if !class.holds(script[x - 1]) {
-        return false;
-    }
-    class.holds(script[x])
+    1 < bytes::run(class, bytes::part(script, x - 1, 2))
 }
 
 // Whether no operand has to be told of here: none begins within a name or within blanks. Any answer is sound.

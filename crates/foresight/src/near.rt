@@ -9,7 +9,7 @@ use crate::Told;
 use crate::skipping;
 use crate::table::Column;
 use lex::Cursor;
-use lex::bytes::Class;
+use lex::bytes;
 use rules::Mode;
 
 // Where the next line ends and the next block comment does, from a place on; the next quote behind it; and where the token's bytes end that stand there.
@@ -41,7 +41,7 @@ fn plain_from(script: &[u8], x: usize, behind: usize) -> usize
     if script.len() <= x {
         return x;
     }
-    if Class::Plain.holds(script[x]) {
+    if bytes::is_plain(script[x]) {
         return behind;
     }
     x

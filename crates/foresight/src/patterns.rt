@@ -9,7 +9,7 @@ use crate::table;
 use crate::table::Column;
 use lex::Cursor;
 use lex::Read;
-use lex::bytes::Class;
+use lex::bytes;
 use operators::Operated;
 use rules::Mode;
 
@@ -21,7 +21,7 @@ pub fn name(script: &[u8], table: &[u64], filled: usize, mode: Mode, x: usize) -
     if script.len() <= x {
         return Told::Fails(0);
     }
-    if !Class::Pattern.holds(script[x]) {
+    if !bytes::is_pattern(script[x]) {
         return Told::Fails(0);
     }
     let behind = table::look(script, table, filled, mode, Column::Name, x + 1);

@@ -10,7 +10,7 @@ use crate::Told;
 use crate::table;
 use crate::table::Column;
 use lex::Cursor;
-use lex::bytes::Class;
+use lex::bytes;
 use rules::Mode;
 
 // Where a text first stands from a place on, or the script's length; `behind` is the same from one byte further on.
@@ -56,7 +56,7 @@ pub fn skip(
     if script.len() <= x {
         return Told::Ends(0, x);
     }
-    if Class::Blank.holds(script[x]) {
+    if bytes::is_blank(script[x]) {
         return table::look(script, table, filled, mode, Column::Skip, x + 1);
     }
     Told::Ends(0, x)

@@ -3,13 +3,13 @@ ghost use mathlib.Core.Path.{_≡_};
 ghost use Prim.Native.Nat.{_<_, _≤_};
 ghost use lib.ListN.{length};
 ghost use Rattle.foresight.specs.Worth.{is-inner, opens as opens-at, many as many-in};
-use lex::bytes::Class;
+use lex::bytes;
 
 // Whether a matcher does not see that a comment begins after this byte.
 fn inner(b: u8) -> bool
     ensures { λ r. ⌜ r ≡ is-inner b ⌝ }
 {
-    if Class::Plain.holds(b) {
+    if bytes::is_plain(b) {
         return true;
     }
     if b == b'(' {

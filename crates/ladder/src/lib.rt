@@ -269,7 +269,7 @@ fn chain(
     let mut at = c;
     let mut turns = operators::most_of(row, script.len());
     while 0 < turns {
-        let found = operators::operator(script, at, row);
+        let found = operators::operator_if_opened(script, at, row);
         let Operated::Got(kind, d) = found else {
             return Step::Got(at);
         };

@@ -3,7 +3,7 @@ ghost use mathlib.Core.Path.{_≡_};
 ghost use lib.ListN.{drop};
 ghost use mathlib.Core.Bool.{_||_};
 ghost use Rattle.rules.specs.Text.{ascii, among as one-of, begins as begins-with, run as run-of, find as find-in, part-of, same as same-as};
-ghost use Rattle.rules.specs.Bytes.{between as is-between, is-digit, is-hex, is-letter, is-initial, is-identifier};
+ghost use Rattle.rules.specs.Bytes.{between as is-between, is-blank, is-plain, is-digit, is-hex, is-letter, is-initial, is-identifier, is-pattern};
 ghost use Rattle.lex.specs.Class.{has, found};
 
 // A class of bytes.
@@ -24,7 +24,7 @@ pub enum Found {
 }
 
 // Whether b is one of the bytes of l.
-fn among(l: &[u8], b: u8) -> bool
+pub fn among(l: &[u8], b: u8) -> bool
     ensures { λ r. ⌜ r ≡ one-of (now (l .entry)) b ⌝ }
 {
     let mut i = 0;
@@ -97,6 +97,12 @@ fn is_identifier(b: u8) -> bool
     is_initial(b)
 }
 
+pub fn is_blank(b: u8) -> bool
+    ensures { λ r. ⌜ r ≡ is-blank b ⌝ }
+{
+    among(b" \t\r\n", b)
+}
+
 // Whether b ends a token. Few bytes are asked at a time, which is quicker.
 fn ends_token(b: u8) -> bool
     ensures { λ r. ⌜ r ≡ one-of (ascii " (){};,\n\t") b ⌝ }
@@ -107,19 +113,33 @@ fn ends_token(b: u8) -> bool
     among(b"};,\n\t", b)
 }
 
+// Whether b is a token's byte.
+pub fn is_plain(b: u8) -> bool
+    ensures { λ r. ⌜ r ≡ is-plain b ⌝ }
+{
+    !ends_token(b)
+}
+
+// Whether b is a byte of a pattern's name.
+pub fn is_pattern(b: u8) -> bool
+    ensures { λ r. ⌜ r ≡ is-pattern b ⌝ }
+{
+    !among(b") \t\n\x0c\r", b)
+}
+
 impl Class {
     // Whether a byte is of this class.
-    pub fn holds(self, b: u8) -> bool
+    fn holds(self, b: u8) -> bool
         ensures { λ r. ⌜ r ≡ has self b ⌝ }
     {
         match self {
-            Class::Blank => among(b" \t\r\n", b),
-            Class::Plain => !ends_token(b),
+            Class::Blank => is_blank(b),
+            Class::Plain => is_plain(b),
             Class::Quoted => b != b'"',
             Class::Digit => is_digit(b),
             Class::Hex => is_hex(b),
             Class::Identifier => is_identifier(b),
-            Class::Pattern => !among(b") \t\n\x0c\r", b),
+            Class::Pattern => is_pattern(b),
         }
     }
 }

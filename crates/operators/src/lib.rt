@@ -3,12 +3,15 @@ ghost use mathlib.Core.Path.{_≡_};
 ghost use Prim.Native.Nat.{_+_, _<_};
 ghost use mathlib.Core.List.{_∷_};
 ghost use lib.ListN.{drop};
+ghost use Rattle.rules.specs.Text.{among};
 ghost use Rattle.rules.specs.Rule.{_or-else_};
 ghost use Rattle.rules.specs.Expressions.{signed, signed-unless, comparison as comparison-rule, operator as operator-of, prefix as prefix-rule, most-of, ladder};
 ghost use Rattle.lex.specs.Contract.{Lexes};
 ghost use Rattle.operators.specs.Answers.{operated};
+ghost use Rattle.operators.specs.Openers.{openers};
 use lex::Cursor;
 use lex::Read;
+use lex::bytes;
 use rules::Mode;
 use rules::Row;
 
@@ -132,6 +135,38 @@ pub fn operator(script: &[u8], c: Cursor, row: Row) -> Operated
         Row::Additive => sign_of_two(script, c, b"+", 4, b"-", 5),
         Row::Multiplicative => multiplicative(script, c),
     }
+}
+
+// Whether an operator of a row begins with this byte.
+fn opener(row: Row, b: u8) -> bool
+    ensures { λ r. ⌜ r ≡ among (openers row) b ⌝ }
+{
+    match row {
+        Row::LogicalOr => bytes::among(b"|", b),
+        Row::LogicalAnd => bytes::among(b"&", b),
+        Row::Comparison => bytes::among(b"<>=!", b),
+        Row::Comparisons => bytes::among(b"<>=!", b),
+        Row::BitwiseOr => bytes::among(b"|", b),
+        Row::BitwiseXor => bytes::among(b"^", b),
+        Row::BitwiseAnd => bytes::among(b"&", b),
+        Row::Shift => bytes::among(b"<>", b),
+        Row::Additive => bytes::among(b"+-", b),
+        Row::Multiplicative => bytes::among(b"*/%", b),
+    }
+}
+
+// The same answer, sooner where no operator of the row begins here.
+pub fn operator_if_opened(script: &[u8], c: Cursor, row: Row) -> Operated
+    ensures { λ r. ⌜ Lexes (operator-of row) (now (script .entry)) c (operated r) ⌝ }
+{
+    let at = c.at;
+    if script.len() <= at {
+        return Operated::Fail;
+    }
+    if !opener(row, script[at]) {
+        return Operated::Fail;
+    }
+    operator(script, c, row)
 }
 
 // How many operators of a row are read at most in a script of n bytes.

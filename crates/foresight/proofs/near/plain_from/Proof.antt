@@ -12,5 +12,5 @@ plain-from-spec =
     (λ c. plain-behind _ _ (c .if1 .taken))
     (λ c. search needs)
     (λ c κs. search needs)
-    (λ c. plain-on _ _ (c .before .before .before .if1 .left) (sym (c .before .holds .ensures) ∙ c .if2 .taken) (c .before .before .before .before .before .pre))
-    (λ c. plain-here _ _ (c .before .before .before .if1 .left) (sym (c .before .holds .ensures) ∙ c .if2 .left)))
+    (λ c. plain-on _ _ (c .before .before .before .if1 .left) (sym (c .before .is-plain .ensures) ∙ c .if2 .taken) (c .before .before .before .before .before .pre))
+    (λ c. plain-here _ _ (c .before .before .before .if1 .left) (sym (c .before .is-plain .ensures) ∙ c .if2 .left)))

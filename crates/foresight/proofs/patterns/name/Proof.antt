@@ -13,7 +13,7 @@ use Rattle.foresight.proofs.patterns.name.Tie as tie
 
 -- the byte here is one of a name
 a-byte : (c : tie.Else2) → is-pattern (getD (c .before .before .before .before .before .before .args .script .now) (c .before .before .before .before .before .before .args .x) 0) ≡ true
-a-byte c = sym (c .before .holds .ensures) ∙ not-false _ (c .if2 .left)
+a-byte c = sym (c .before .is-pattern .ensures) ∙ not-false _ (c .if2 .left)
 
 pub name-spec : {M : Type 1} → statement M
 name-spec =
@@ -22,7 +22,7 @@ name-spec =
     (λ c. name-lost _ _ (run-end is-pattern _ _ (c .if1 .taken)))
     (λ c. search needs)
     (λ c κs. search needs)
-    (λ c. name-lost _ _ (run-stop is-pattern _ _ (c .before .before .before .if1 .left) (sym (c .before .holds .ensures) ∙ not-true _ (c .if2 .taken))))
+    (λ c. name-lost _ _ (run-stop is-pattern _ _ (c .before .before .before .if1 .left) (sym (c .before .is-pattern .ensures) ∙ not-true _ (c .if2 .taken))))
     (λ c. search needs)
     (λ c κs. search needs)
     (λ c. search needs)

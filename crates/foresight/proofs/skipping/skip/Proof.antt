@@ -50,6 +50,6 @@ skip-spec =
     (λ c κs. search needs)
     (λ c. search needs)
     (λ c κs. search needs)
-    (λ c. blank-behind _ _ (c .before .before .before .before .if5 .left) (sym (c .before .before .holds .ensures) ∙ c .before .if6 .taken) _ (c .look3 .ensures))
+    (λ c. blank-behind _ _ (c .before .before .before .before .if5 .left) (sym (c .before .before .is-blank .ensures) ∙ c .before .if6 .taken) _ (c .look3 .ensures))
     (λ c. ends-here _ _ (no-hash (c .before .before .before .before .before)) (no-slash (c .before .before .before .before))
-    (run-stop is-blank _ _ (c .before .before .before .if5 .left) (sym (c .before .holds .ensures) ∙ c .if6 .left))))
+    (run-stop is-blank _ _ (c .before .before .before .if5 .left) (sym (c .before .is-blank .ensures) ∙ c .if6 .left))))

@@ -9,6 +9,6 @@ inner-spec =
     tie.close
     (tie.spec
     (λ c κs. search needs)
-    (λ c. inner-plain _ (c .before .holds .ensures) (c .if1 .taken))
-    (λ c. inner-bracket _ (c .before .before .holds .ensures) (c .before .if1 .left) (c .if2 .taken))
-    (λ c. inner-comma _ (c .before .before .holds .ensures) (c .before .if1 .left) (c .if2 .left)))
+    (λ c. inner-plain _ (c .before .is-plain .ensures) (c .if1 .taken))
+    (λ c. inner-bracket _ (c .before .before .is-plain .ensures) (c .before .if1 .left) (c .if2 .taken))
+    (λ c. inner-comma _ (c .before .before .is-plain .ensures) (c .before .if1 .left) (c .if2 .left)))

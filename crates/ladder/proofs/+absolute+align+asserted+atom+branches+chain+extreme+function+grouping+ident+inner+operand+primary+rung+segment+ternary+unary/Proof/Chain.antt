@@ -20,7 +20,7 @@ use Rattle.ladder.proofs.+absolute+align+asserted+atom+branches+chain+e
 use Rattle.ladder.proofs.chain.Reads as chain
 use Rattle.ladder.proofs.rung.Reads as rung
 use Rattle.operators.proofs.most_of.Reads as most-of-reads
-use Rattle.operators.proofs.operator.Reads as operator-reads
+use Rattle.operators.proofs.operator_if_opened.Reads as operator-reads
 use Rattle.lex.proofs.Cursor.skip_blanks.Reads as skip-blanks-reads
 use Rattle.tape.proofs.push.Reads as push-reads
 use Rattle.ladder.proofs.+absolute+align+asserted+atom+branches+chain+extreme+function+grouping+ident+inner+operand+primary+rung+segment+ternary+unary.Lts-chain as lts
@@ -54,11 +54,11 @@ module _ (t : ℕ) where
 
   abbrev at-no-operator : (c : lts.After-enum-told (callees t) (chain-at t) chain.Post Inv-loop μ-loop) → Further (at-turn (c .before .before .before)) (c .before .before .before .before .loop .at)
   unfolding rule.chain perhaps
-  at-no-operator c = bytes _ (at-turn (c .before .before .before)) refl (opt-none (known operated (c .before .before .operator .ensures) (c .enum-told .given .1)))
+  at-no-operator c = bytes _ (at-turn (c .before .before .before)) refl (opt-none (known operated (c .before .before .operator-if-opened .ensures) (c .enum-told .given .1)))
 
   abbrev at-found : (c : lts.After-found (callees t) (chain-at t) chain.Post Inv-loop μ-loop) → On (at-turn (c .before .before .before)) 1 (c .before .before .before .before .loop .tape) (c .found .given .0 .1 .0)
   unfolding rule.chain perhaps
-  at-found c = earned-opt _ (operator-pays (c .before .before .before .before .before .before .before .before .args .row)) (at-turn (c .before .before .before)) refl (known operated (c .before .before .operator .ensures) (c .found .given .1))
+  at-found c = earned-opt _ (operator-pays (c .before .before .before .before .before .before .before .before .args .row)) (at-turn (c .before .before .before)) refl (known operated (c .before .before .operator-if-opened .ensures) (c .found .given .1))
 
   abbrev at-skip-blanks : (c : lts.After-skip-blanks (callees t) (chain-at t) chain.Post Inv-loop μ-loop) → Further (at-found (c .before .before .before)) (c .skip-blanks .result)
   unfolding rule.chain perhaps

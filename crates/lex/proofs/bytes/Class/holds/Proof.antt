@@ -1,7 +1,5 @@
 -- In each arm the class is known, and its test was made.
-use mathlib.Core.Path.{ap}
 use borrow.Author.Needs.{needs}
-use mathlib.Core.Bool.{not}
 use Rattle.lex.proofs.bytes.Class.holds.Statement.{statement}
 use Rattle.lex.proofs.bytes.Class.holds.Tie as tie
 
@@ -10,7 +8,6 @@ holds-spec =
     tie.close
     (tie.spec
     (λ c. search needs)
-    (λ c. search needs)
     (λ c κs. search needs)
     (λ c. search needs)
     (λ c κs. search needs)
@@ -22,12 +19,11 @@ holds-spec =
     (λ c. search needs)
     (λ c κs. search needs)
     (λ c. search needs)
-    (λ c. search needs)
     (λ c κs. search needs)
-    (λ c. rw (c .before .before .enum-told .given .1) (c .among .ensures))
-    (λ c. rw (c .before .enum-told2 .given .1) (ap not (c .ends-token .ensures)))
+    (λ c. rw (c .before .enum-told .given .1) (c .is-blank .ensures))
+    (λ c. rw (c .before .enum-told2 .given .1) (c .is-plain .ensures))
     (λ c. rw (c .enum-told3 .given .1))
     (λ c. rw (c .before .enum-told4 .given .1) (c .is-digit .ensures))
     (λ c. rw (c .before .enum-told5 .given .1) (c .is-hex .ensures))
     (λ c. rw (c .before .enum-told6 .given .1) (c .is-identifier .ensures))
-    (λ c. rw (c .before .before .enum-told7 .given .1) (ap not (c .among2 .ensures))))
+    (λ c. rw (c .before .enum-told7 .given .1) (c .is-pattern .ensures)))
