@@ -16,7 +16,7 @@ use rules::Token;
 use tape::Counted;
 use tape::Step;
 
-pub mod formats;
+mod formats;
 
 // One item of SECTIONS, MEMORY or PHDRS.
 fn item(

@@ -59,7 +59,7 @@ fn provided(script: &[u8], table: &[u64], filled: usize, mode: Mode, p: usize) -
 }
 
 // ASSERT, up to its bracket.
-fn told(script: &[u8], table: &[u64], filled: usize, mode: Mode, p: usize) -> Told
+fn asserted(script: &[u8], table: &[u64], filled: usize, mode: Mode, p: usize) -> Told
     requires { ⌜ Known mode (now script) (now table) filled ⌝ }
     ensures { λ r. ⌜ Tells (λ left. rule.contents-assert (expression mode left)) (now (script .entry)) p r ⌝ }
 {
@@ -145,7 +145,7 @@ fn first_mark(script: &[u8], table: &[u64], filled: usize, mode: Mode, p: usize)
     ensures { λ r. ⌜ InVain (λ left. rule.keep) (now (script .entry)) p r ⌝ }
 {
     let a = mark_of(provided(script, table, filled, mode, p));
-    let b = mark_of(told(script, table, filled, mode, p));
+    let b = mark_of(asserted(script, table, filled, mode, p));
     let c = mark_of(kept(script, table, filled, mode, p));
     if a == 0 {
         return 0;

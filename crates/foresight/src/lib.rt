@@ -13,18 +13,18 @@ use lex::Cursor;
 use lex::Read;
 use rules::Mode;
 
-pub mod expressions;
+mod expressions;
 pub mod items;
-pub mod near;
-pub mod patterns;
-pub mod skipping;
-pub mod table;
+mod near;
+mod patterns;
+mod skipping;
+mod table;
 pub mod worth;
 
 use table::Column;
 
 // What is told of a reading: nothing; that it fails; or where it ends. The first number is of the levels that it may have to open.
-pub enum Told {
+enum Told {
     Nothing,
     Fails(usize),
     Ends(usize, usize),
@@ -64,7 +64,7 @@ impl Told {
     }
 
     // Past these bytes.
-    pub fn word(self, script: &[u8], w: &[u8]) -> Told
+    fn word(self, script: &[u8], w: &[u8]) -> Told
         ensures { λ r. ⌜ Passes (λ left. tag (now (w .entry))) (now (script .entry)) self r ⌝ }
     {
         let Told::Ends(need, x) = self else {
@@ -78,7 +78,7 @@ impl Told {
     }
 
     // Past the blanks.
-    pub fn blanks(self, script: &[u8]) -> Told
+    fn blanks(self, script: &[u8]) -> Told
         ensures { λ r. ⌜ Passes (λ left. multispace0) (now (script .entry)) self r ⌝ }
     {
         let Told::Ends(need, x) = self else {
@@ -89,7 +89,7 @@ impl Told {
     }
 
     // Past a token.
-    pub fn token(self, script: &[u8], table: &[u64], filled: usize, mode: Mode) -> Told
+    fn token(self, script: &[u8], table: &[u64], filled: usize, mode: Mode) -> Told
         requires { ⌜ Known mode (now script) (now table) filled ⌝ }
         ensures { λ r. ⌜ PassesToken (now (script .entry)) self r ⌝ }
     {
@@ -100,7 +100,7 @@ impl Told {
     }
 
     // Past what a column of the table tells of.
-    pub fn reads(
+    fn reads(
         self,
         script: &[u8],
         table: &[u64],
@@ -118,7 +118,7 @@ impl Told {
     }
 
     // Past an expression that is one level deeper.
-    pub fn inner(self, script: &[u8], table: &[u64], filled: usize, mode: Mode) -> Told
+    fn inner(self, script: &[u8], table: &[u64], filled: usize, mode: Mode) -> Told
         requires { ⌜ Known mode (now script) (now table) filled ⌝ }
         ensures { λ r. ⌜ Passes (λ left. levels mode left .expressions) (now (script .entry)) self r ⌝ }
     {

@@ -30,14 +30,14 @@ pub enum Numbered {
 }
 
 // x by 1,024 modulo 2^64: its highest bits go first, so that the product fits.
-pub fn times_kilo(x: u64) -> u64
+fn times_kilo(x: u64) -> u64
     ensures { λ r. ⌜ r ≡ (x * 1024) % 2 ^ 64 ⌝ }
 {
     (x % 0x40_0000_0000_0000) * 1024
 }
 
 // x by 1,048,576 modulo 2^64.
-pub fn times_mega(x: u64) -> u64
+fn times_mega(x: u64) -> u64
     ensures { λ r. ⌜ r ≡ (x * 1048576) % 2 ^ 64 ⌝ }
 {
     (x % 0x1000_0000_0000) * 1048576

@@ -33,7 +33,7 @@ pub fn sign(script: &[u8], c: Cursor, w: &[u8], kind: u64) -> Operated
 }
 
 // A sign that is not read before another one.
-pub fn sign_unless(script: &[u8], c: Cursor, w: &[u8], next: &[u8], kind: u64) -> Operated
+fn sign_unless(script: &[u8], c: Cursor, w: &[u8], next: &[u8], kind: u64) -> Operated
     ensures { λ r. ⌜ Lexes (signed-unless (now (w .entry)) (now (next .entry)) kind) (now (script .entry)) c (operated r) ⌝ }
 {
     let here = c.word(script, w);

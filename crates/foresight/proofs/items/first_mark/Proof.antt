@@ -14,7 +14,7 @@ at-last c =
     let args = first .before .before .before .before .args in (
       larger-mark (providing (args .mode)) (args .script .now) (args .p) (first .mark-of .result) (c .larger2 .result) (first .mark-of .ensures _ _ _ (first .before .provided .ensures)) (c .before .before .before .before .if1 .left) (c .larger2 .ensures .0),
       (
-        larger-mark (asserting (args .mode)) (args .script .now) (args .p) (second .mark-of2 .result) (c .larger2 .result) (second .mark-of2 .ensures _ _ _ (second .before .told .ensures)) (c .before .before .before .if2 .left) (omega (arith, c .before .larger .ensures .0, c .larger2 .ensures .1)),
+        larger-mark (asserting (args .mode)) (args .script .now) (args .p) (second .mark-of2 .result) (c .larger2 .result) (second .mark-of2 .ensures _ _ _ (second .before .asserted .ensures)) (c .before .before .before .if2 .left) (omega (arith, c .before .larger .ensures .0, c .larger2 .ensures .1)),
         larger-mark keeping (args .script .now) (args .p) (third .mark-of3 .result) (c .larger2 .result) (third .mark-of3 .ensures _ _ _ (third .before .kept .ensures)) (c .before .before .if3 .left) (omega (arith, c .before .larger .ensures .1, c .larger2 .ensures .1)),
       ),
     )

@@ -1,11 +1,11 @@
 -- Each call goes on where the one before it is told to end.
 use borrow.Author.Needs.{needs}
 use Rattle.foresight.proofs.Contents.{assert-told}
-use Rattle.foresight.proofs.items.told.Statement.{statement}
-use Rattle.foresight.proofs.items.told.Tie as tie
+use Rattle.foresight.proofs.items.asserted.Statement.{statement}
+use Rattle.foresight.proofs.items.asserted.Tie as tie
 
-pub told-spec : {M : Type 1} → statement M
-told-spec =
+pub asserted-spec : {M : Type 1} → statement M
+asserted-spec =
     tie.close
     (tie.spec
     (λ c. search needs)
