@@ -100,14 +100,7 @@ impl Told {
     }
 
     // Past what a column of the table tells of.
-    fn reads(
-        self,
-        script: &[u8],
-        table: &[u64],
-        filled: usize,
-        mode: Mode,
-        column: Column,
-    ) -> Told
+    fn reads(self, script: &[u8], table: &[u64], filled: usize, mode: Mode, column: Column) -> Told
         requires { ⌜ Known mode (now script) (now table) filled ⌝ }
         ensures { λ r. ⌜ Passes (told-of mode column) (now (script .entry)) self r ⌝ }
     {

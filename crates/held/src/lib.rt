@@ -50,7 +50,7 @@ pub enum Walked {
 
 impl Skipped {
     // The place in it.
-    pub fn to(self) -> usize
+    fn to(self) -> usize
         ensures { λ r. ⌜ r ≡ skipped-to self ⌝ }
     {
         match self {
@@ -60,7 +60,7 @@ impl Skipped {
     }
 
     // The step after blanks and comments, where they end.
-    pub fn before(self, next: Step) -> Step
+    fn before(self, next: Step) -> Step
         ensures { λ r. ⌜ r ≡ then-step self next ⌝ }
     {
         match self {
@@ -72,7 +72,7 @@ impl Skipped {
 
 impl Step {
     // The place in it.
-    pub fn to(self) -> usize
+    fn to(self) -> usize
         ensures { λ r. ⌜ r ≡ stepped-to self ⌝ }
     {
         match self {
@@ -84,7 +84,7 @@ impl Step {
 }
 
 // The place after the blanks at a place.
-pub fn blanks_at(script: &[u8], at: usize) -> usize
+fn blanks_at(script: &[u8], at: usize) -> usize
     ensures { λ r. ⌜ Lexes multispace0 (now (script .entry)) (at-place at) (went tt (at-place r)) ⌝ }
 {
     let c = Cursor { at, count: 0 };
@@ -93,7 +93,7 @@ pub fn blanks_at(script: &[u8], at: usize) -> usize
 }
 
 // The place after the blanks and comments at a place.
-pub fn skip_at(script: &[u8], at: usize) -> Skipped
+fn skip_at(script: &[u8], at: usize) -> Skipped
     ensures { λ r. ⌜ Skips (now (script .entry)) at r ⌝ }
 {
     let c = Cursor { at, count: 0 };
@@ -105,7 +105,7 @@ pub fn skip_at(script: &[u8], at: usize) -> Skipped
 }
 
 // The token at a place.
-pub fn token_at(script: &[u8], at: usize) -> Step
+fn token_at(script: &[u8], at: usize) -> Step
     ensures { λ r. ⌜ Takes (now (script .entry)) at r ⌝ }
 {
     let c = Cursor { at, count: 0 };
@@ -188,7 +188,7 @@ fn is_sign(b: u8) -> bool
 }
 
 // What stands after the blanks and comments at a place.
-pub fn turn_at(script: &[u8], at: usize) -> Turn
+fn turn_at(script: &[u8], at: usize) -> Turn
     ensures { λ r. ⌜ r ≡ turn-at (now (script .entry)) at ⌝ }
 {
     let step = next_token(script, at);

@@ -11,7 +11,7 @@ use lex::bytes::Class;
 use tape::Step;
 
 // Past `)`, with one record more.
-pub fn finish(script: &[u8], tape: &mut [u64], c: Cursor, kind: u64, a: u64, b: u64) -> Step
+pub(crate) fn finish(script: &[u8], tape: &mut [u64], c: Cursor, kind: u64, a: u64, b: u64) -> Step
     requires { ⌜ Room (now script) (now tape) c ⌝ }
     ensures { λ r. ⌜ Reads (seq (word ")") (add kind a b 0 0)) (now (script .entry)) (now (tape .entry)) c (stepped r) (now (tape .exit)) ⌝ }
 {
@@ -23,7 +23,7 @@ pub fn finish(script: &[u8], tape: &mut [u64], c: Cursor, kind: u64, a: u64, b: 
 }
 
 // Past blanks and `)`, with one record more.
-pub fn close(script: &[u8], tape: &mut [u64], c: Cursor, kind: u64, a: u64, b: u64) -> Step
+pub(crate) fn close(script: &[u8], tape: &mut [u64], c: Cursor, kind: u64, a: u64, b: u64) -> Step
     requires { ⌜ Room (now script) (now tape) c ⌝ }
     ensures { λ r. ⌜ Reads (seq multispace0 (seq (word ")") (add kind a b 0 0))) (now (script .entry)) (now (tape .entry)) c (stepped r) (now (tape .exit)) ⌝ }
 {
@@ -51,7 +51,7 @@ pub fn function_argument(script: &[u8], c: Cursor) -> Taken
 }
 
 // A function of a name.
-pub fn named(script: &[u8], tape: &mut [u64], c: Cursor, kind: u64) -> Step
+pub(crate) fn named(script: &[u8], tape: &mut [u64], c: Cursor, kind: u64) -> Step
     requires { ⌜ Room (now script) (now tape) c ⌝ }
     ensures { λ r. ⌜ Reads (named-rule kind) (now (script .entry)) (now (tape .entry)) c (stepped r) (now (tape .exit)) ⌝ }
 {

@@ -79,7 +79,7 @@ fn is_letter(b: u8) -> bool
     between(b'A', b, b'Z')
 }
 
-pub fn is_initial(b: u8) -> bool
+pub(crate) fn is_initial(b: u8) -> bool
     ensures { λ r. ⌜ r ≡ is-initial b ⌝ }
 {
     if is_letter(b) {
@@ -170,7 +170,7 @@ pub fn run(class: Class, l: &[u8]) -> usize
 }
 
 // Whether l begins with w.
-pub fn begins(w: &[u8], l: &[u8]) -> bool
+pub(crate) fn begins(w: &[u8], l: &[u8]) -> bool
     ensures { λ r. ⌜ r ≡ begins-with (now (w .entry)) (now (l .entry)) ⌝ }
 {
     let mut i = 0;
