@@ -190,7 +190,7 @@ any-count s (suc n) k j p h =
 one-less : (s : List ℕ) (q : ℕ) → 1 ≤ q → q ≤ length s → (n : ℕ) → length s ≡ n → (h : Held) → repeating pattern (word ")") n 0 .out s q h ≡ repeating pattern (word ")") (suc n) 0 .out s q h
 one-less s q l i zero e h = absurd (omega arith)
 one-less s q l i (suc n) e h =
-    let fewer = patterns-enough s 0 0 n (suc n) q (omega arith) (omega arith) 0 .same q nothing (omega arith) i (omega arith) (omega arith) in
+    let fewer = patterns-enough s 0 0 n (suc n) q (omega arith) (omega arith) 0 .same q nothing (omega arith) i (omega arith) (omega arith) .0 in
     repeat-blind pattern-blind (tag-blind _) (suc n) 0 .same s q h ∙ ap (over h) (sym fewer) ∙ sym (repeat-blind pattern-blind (tag-blind _) (suc (suc n)) 0 .same s q h)
 
 as-a-list : (s : List ℕ) (q : ℕ) → 1 ≤ q → q ≤ length s → (h : Held) → from-turn (length s) 1 .out s q h ≡ listed .out s q h

@@ -94,7 +94,7 @@ module _ {tight : Rule (Unit {0})} (blind : Blind tight) (fine : Fine tight) (ah
         go zero q (many a b) = absurd (omega arith)
         go (suc n) q (many a b) =
             let i : turns-of fresh′ row (length s) ≡ suc (suc n) = b ∙ sym a ∙ q in
-            let j = (multispace0-pays 0 0 same-by (λ _. chain-enough s 0 0 row (climb-pays rows fine) n (suc n) v (omega arith) (omega arith) tt)) .same v nothing (omega arith) u (omega arith) (omega arith) in
+            let j = (multispace0-pays 0 0 same-by (λ _. chain-enough s 0 0 row (climb-pays rows fine) n (suc n) v (omega arith) (omega arith) tt)) .same v nothing (omega arith) u (omega arith) (omega arith) .0 in
             rw i (blind-places (links-blind row rows (suc n)) .same s v g nothing ∙ ap place-of (sym j) ∙ blind-places (links-blind row rows (suc (suc n))) .same s v nothing k)
         go m q (lone a b) =
             let i : m ≡ 0 = omega arith in

@@ -77,7 +77,7 @@ no-run t a z v (b ∷ l) e = go (eqb b a) refl e
 one-less : (s : List ℕ) (y : ℕ) → 1 ≤ y → y ≤ length s → (n : ℕ) → length s ≡ n → skipping n .out s y nothing ≡ skip .out s y nothing
 unfolding skip-comments-and-whitespace _>>=_ size
 one-less s y l i zero e = absurd (omega arith)
-one-less s y l i (suc n) e = sym (skipping-enough s 0 0 n (length s) y (omega arith) (omega arith) tt .same y nothing (omega arith) i (omega arith) (omega arith))
+one-less s y l i (suc n) e = sym (skipping-enough s 0 0 n (length s) y (omega arith) (omega arith) tt .same y nothing (omega arith) i (omega arith) (omega arith) .0)
 
 -- what a turn does where no blank stands
 module _ (s : List ℕ) (x : ℕ) (none-here : run is-blank (drop x s) ≡ 0) where

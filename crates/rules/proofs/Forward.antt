@@ -27,7 +27,7 @@ module _ {deeper : Deeper} (x : Sound deeper) where
   unfolding unary
   unary-ahead = later-ahead multispace0-pays (λ _. opt-ahead prefix-pays (λ kind f i. x .unaries f (suc i) before costs _ _ _ _ _) primary-ahead)
 
-  climb-ahead : (rows : List Row) → Ahead (climb rows (unary deeper))
+  pub climb-ahead : (rows : List Row) → Ahead (climb rows (unary deeper))
   unfolding climb rung
   climb-ahead [] = unary-ahead
   climb-ahead (row ∷ rows) =

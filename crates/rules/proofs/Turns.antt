@@ -1,15 +1,16 @@
 -- THE COUNT OF TURNS NEVER DECIDES: a turn that goes on has read a byte, so a rule with a turn for each byte that is left, and one more, answers as with
--- any number more. Each is started with one for each byte of the script, and one more; a row with one for each byte, where its first operand has read one.
-use mathlib.Core.Path.{_≡_, refl, subst}
-use Prim.Native.Nat.{ℕ, zero, suc, _+_, _≤_, _<_}
+-- any number more, and holds as many records at most. Each is started with one for each byte of the script, and one more; a row with one for each byte, where its first operand has read one.
+use mathlib.Core.Path.{_≡_, refl, ap, subst}
+use Prim.Native.Nat.{ℕ, zero, suc, _+_, _≤_, _<_, max}
 use native.Mathlib.Omega.{arith}
-use mathlib.Core.List.{List}
+use native.Mathlib.Numerals.{unary-clauses}
+use mathlib.Core.List.{List, _∷_}
 use mathlib.Core.Bool.{Bool, true, false}
 use mathlib.Core.Option.{Option, none, some}
 use lib.ListN.{length}
-use Rattle.rules.specs.Rule.{Held, Out, got, fail, deep, Rule, after, otherwise, give, _>>=_, _>>_, if_then_else_, _or-else_, opt, perhaps, repeating, back, done, word}
+use Rattle.rules.specs.Rule.{Held, Out, got, fail, deep, Rule, after, most-after, otherwise, give, _>>=_, _>>_, if_then_else_, _or-else_, opt, perhaps, size, repeating, back, done, word}
 use Rattle.rules.specs.Bytes.{skip, multispace0, comment, skipping}
-use Rattle.rules.specs.Expressions.{operator, chain, expression}
+use Rattle.rules.specs.Expressions.{operator, most-of, chain, rung, climb, Deeper, unary, expression}
 use Rattle.rules.specs.Contents.{plain-pattern, sorted-pattern, pattern, keep, matcher, contents-provide, contents-assert, contents-command}
 use Rattle.rules.specs.Sections.{section-attribute, heading-of, start-expression, heading-part, heading-from, alignment, clause, clauses-from, endings-from}
 use Rattle.rules.specs.Commands.{segment-words-from, item, command-with, command}
@@ -24,8 +25,8 @@ use Rattle.rules.proofs.Pays.{Fine, Earns, Pays, PaidOut, _before_, _or
 use Rattle.rules.proofs.Ahead.{Ahead, on, past, Steps, first-ahead, later-ahead, or-ahead, earn-ahead, opt-later, if-ahead}
 use Rattle.rules.proofs.Bytes.{multispace0-pays, comment-pays, comment-ahead, skip-pays, pattern-name-pays, skip-tag-pays, skip-tag-skip-pays, tag-skip-pays, tag-skip-earns, opt-tag-skip-pays}
 use Rattle.rules.proofs.Rule.{not-deep}
-use Rattle.rules.proofs.Expressions.{expression-pays, operator-pays, assert-pays, signed-pays}
-use Rattle.rules.proofs.Forward.{expression-ahead}
+use Rattle.rules.proofs.Expressions.{Sound, expression-pays, climb-pays, unary-pays, operator-pays, assert-pays, signed-pays}
+use Rattle.rules.proofs.Forward.{climb-ahead, expression-ahead}
 use Rattle.rules.proofs.Commands.{sort-pays, pattern-pays, matcher-pattern-steps, matcher-pattern-pays, keep-pays, provide-pays, assignment-steps, constructors-steps, contents-command-pays, item-steps, section-attribute-steps, section-attribute-pays, heading-part-pays, command-with-steps, group-pays, noted-pays, bracketed-steps, clause-pays, ending-sign-pays, ending-costs, segment-word-pays, flag-clause-costs}
 
 -- what goes on from equal answers is equal
@@ -34,9 +35,33 @@ alike (got a q g) f = f a q g refl
 alike fail f = refl
 alike deep f = refl
 
--- two rules answer alike from a place on, up to the script's end, where k bytes have no record yet and the first f records are held
+-- two rules answer alike at a place, and hold as many records at most
+abbrev pub SameAt : {A : Type 0} → List ℕ → (m n : Rule A) → ℕ → Held → Type 0
+SameAt s m n p h = (m .out s p h ≡ n .out s p h) × (m .most s p h ≡ n .most s p h)
+
+then-same : {A B : Type 0} (s : List ℕ) (p : ℕ) (h : Held) (a : Rule A) (m n : A → Rule B) → ((b : A) (q : ℕ) (g : Held) → a .out s p h ≡ got b q g → SameAt s (m b) (n b) q g) → SameAt s (a >>= m) (a >>= n) p h
+unfolding _>>=_
+then-same {A} s p h a m n f = (alike (a .out s p h) (λ b q g e. f b q g e .0), ap (max (a .most s p h)) (go (a .out s p h) f))
+  where
+    go : (o : Out A) → ((b : A) (q : ℕ) (g : Held) → o ≡ got b q g → SameAt s (m b) (n b) q g) → most-after o (λ b q g. m b .most s q g) ≡ most-after o (λ b q g. n b .most s q g)
+    go (got b q g) f = f b q g refl .1
+    go fail f = refl
+    go deep f = refl
+
+-- the same, of a try: where it read something, and where it read nothing
+tried : {A B : Type 0} (s : List ℕ) (p : ℕ) (h : Held) (a : Rule A) (m n : Option A → Rule B) → ((b : A) (q : ℕ) (g : Held) → a .out s p h ≡ got b q g → SameAt s (m (some b)) (n (some b)) q g) → SameAt s (m none) (n none) p h
+    → (c : Option A) (q : ℕ) (g : Held) → opt a .out s p h ≡ got c q g → SameAt s (m c) (n c) q g
+unfolding opt _or-else_ _>>=_ give
+tried {A} s p h a m n f z c q g e = go (a .out s p h) f e
+  where
+    go : (o : Out A) → ((b : A) (q : ℕ) (g : Held) → o ≡ got b q g → SameAt s (m (some b)) (n (some b)) q g) → otherwise (after o (λ b q g. got (some b) q g)) (got none p h) ≡ got c q g → SameAt s (m c) (n c) q g
+    go (got b r k) f e = let i : some b ≡ c = cc in let j : r ≡ q = cc in let l : k ≡ g = cc in rw (← i, ← j, ← l) (f b r k refl)
+    go fail f e = let i : none ≡ c = cc in let j : p ≡ q = cc in let l : h ≡ g = cc in rw (← i, ← j, ← l) z
+    go deep f e = absurd (not-deep e)
+
+-- so from a place on, up to the script's end, where k bytes have no record yet and the first f records are held
 pub record Same (s : List ℕ) (f from k : ℕ) {A : Type 0} (m n : Rule A) : Type 0 where
-  pub same : (p : ℕ) (h : Held) → from ≤ p → p ≤ length s → f ≤ h .count → h .count + k ≤ p → m .out s p h ≡ n .out s p h
+  pub same : (p : ℕ) (h : Held) → from ≤ p → p ≤ length s → f ≤ h .count → h .count + k ≤ p → SameAt s m n p h
 
 -- a rule that reads a byte wherever it reads on, where the first f records are held
 pub record Moves (f : ℕ) {A : Type 0} (m : Rule A) : Type 0 where
@@ -47,23 +72,21 @@ moves x = record { move = λ s p h v w e. x .ahead s p h w e }
 
 module _ {s : List ℕ} {f from : ℕ} where
   pub self : {k : ℕ} {A : Type 0} {m : Rule A} → Same s f from k m m
-  self = record { same = λ p h l u v w. refl }
+  self = record { same = λ p h l u v w. (refl, refl) }
 
   -- after a rule that is the same in both: one that pays; one that also moves on, or earns a byte, so that they need be alike only from the next place on
   module _ {k j : ℕ} {A B : Type 0} {a : Rule A} {m n : A → Rule B} where
     infixr 20 _same-by_
     pub _same-by_ : Pays f k j a → ((v : A) → Same s f from j (m v) (n v)) → Same s f from k (a >>= m) (a >>= n)
-    unfolding _>>=_
     x same-by z = record {
-      same = λ p h l u v w. alike (a .out s p h) (λ b q g e.
+      same = λ p h l u v w. then-same s p h a m n (λ b q g e.
           let y = subst (PaidOut _ s f p j) e (x .fair s p h v w .paid) in
           z b .same q g (omega (arith, y .on)) (omega (arith, y .inside)) (y .floor) (y .few));
     }
 
     pub moved-by : Moves f a → Pays f k j a → ((v : A) → Same s f (suc from) j (m v) (n v)) → Same s f from k (a >>= m) (a >>= n)
-    unfolding _>>=_
     moved-by i x z = record {
-      same = λ p h l u v w. alike (a .out s p h) (λ b q g e.
+      same = λ p h l u v w. then-same s p h a m n (λ b q g e.
           let y = subst (PaidOut _ s f p j) e (x .fair s p h v w .paid) in
           z b .same q g (omega (arith, i .move s p h v (omega arith) e)) (omega (arith, y .inside)) (y .floor) (y .few));
     }
@@ -76,27 +99,20 @@ module _ {s : List ℕ} {f from : ℕ} where
 
   -- after a try: where there is nothing; and where there is something, from the next place on
   pub perhaps-by : {k j : ℕ} {A B : Type 0} {a : Rule A} {m m′ : Rule B} {n n′ : A → Rule B} → Earns a → Pays f k j a → Same s f from k m m′ → ((v : A) → Same s f (suc from) j (n v) (n′ v)) → Same s f from k (opt a >>= (λ o. perhaps o m n)) (opt a >>= (λ o. perhaps o m′ n′))
-  unfolding _>>=_ opt _or-else_ give perhaps
-  perhaps-by {k} {j} {A} {B} {a} {m} {m′} {n} {n′} i x y z = record { same = λ p h l u v w. go p h l u v w (a .out s p h) refl }
-    where
-      go : (p : ℕ) (h : Held) → from ≤ p → p ≤ length s → f ≤ h .count → h .count + k ≤ p → (o : Out A) → a .out s p h ≡ o → after (otherwise (after o (λ b q g. got (some b) q g)) (got none p h)) (λ c q g. perhaps c m n .out s q g) ≡ after (otherwise (after o (λ b q g. got (some b) q g)) (got none p h)) (λ c q g. perhaps c m′ n′ .out s q g)
-      go p h l u v w (got b q g) e =
-          let t = subst (PaidOut _ s f p j) e (x .fair s p h v w .paid) in
-          z b .same q g (omega (arith, past s p h (omega arith) e i .0)) (omega (arith, t .inside)) (t .floor) (t .few)
-      go p h l u v w fail e = y .same p h l u v w
-      go p h l u v w deep e = refl
+  unfolding perhaps
+  perhaps-by {a = a} {m} {m′} {n} {n′} i x y z = record {
+    same = λ p h l u v w. then-same s p h (opt a) _ _ (tried s p h a (λ o. perhaps o m n) (λ o. perhaps o m′ n′) (λ b q g e.
+        let t = subst (PaidOut _ s f p _) e (x .fair s p h v w .paid) in
+        z b .same q g (omega (arith, past s p h (omega arith) e i .0)) (omega (arith, t .inside)) (t .floor) (t .few)) (y .same p h l u v w));
+  }
 
   -- after a try whose place does not matter
   opt-by : {k : ℕ} {A B : Type 0} {a : Rule A} {m n : Option A → Rule B} → Fine a → ((o : Option A) → Same s f from k (m o) (n o)) → Same s f from k (opt a >>= m) (opt a >>= n)
-  unfolding _>>=_ opt _or-else_ give
-  opt-by {k} {A} {B} {a} {m} {n} x z = record { same = λ p h l u v w. go p h l u v w (a .out s p h) refl }
-    where
-      go : (p : ℕ) (h : Held) → from ≤ p → p ≤ length s → f ≤ h .count → h .count + k ≤ p → (o : Out A) → a .out s p h ≡ o → after (otherwise (after o (λ b q g. got (some b) q g)) (got none p h)) (λ c q g. m c .out s q g) ≡ after (otherwise (after o (λ b q g. got (some b) q g)) (got none p h)) (λ c q g. n c .out s q g)
-      go p h l u v w (got b q g) e =
-          let t = subst (PaidOut _ s f p k) e (x f k .fair s p h v w .paid) in
-          z (some b) .same q g (omega (arith, t .on)) (omega (arith, t .inside)) (t .floor) (t .few)
-      go p h l u v w fail e = z none .same p h l u v w
-      go p h l u v w deep e = refl
+  opt-by {k} {a = a} {m} {n} x z = record {
+    same = λ p h l u v w. then-same s p h (opt a) _ _ (tried s p h a m n (λ b q g e.
+        let t = subst (PaidOut _ s f p k) e (x f k .fair s p h v w .paid) in
+        z (some b) .same q g (omega (arith, t .on)) (omega (arith, t .inside)) (t .floor) (t .few)) (z none .same p h l u v w));
+  }
 
 -- THE LAW, for a rule of turns: if turns are alike wherever what follows them is from the next place on, the count does not matter
 module _ (s : List ℕ) (f k : ℕ) {Acc A : Type 0} (rule : ℕ → Acc → Rule A) (guarded : (n m from : ℕ) → ((b : Acc) → Same s f (suc from) k (rule m b) (rule n b)) → (b : Acc) → Same s f from k (rule (suc m) b) (rule (suc n) b)) where
@@ -157,11 +173,31 @@ module _ (s : List ℕ) (f k : ℕ) where
     pub group-enough : {g : Rule ℕ} → Fine g → (n m from : ℕ) → n ≤ m → length s ≤ from + n → (i : ℕ) → Same s f from k (repeating (command-with e g) (word ")") (suc m) i) (repeating (command-with e g) (word ")") (suc n) i)
     group-enough x = repeating-enough s f k (command-with-steps y x) (λ f i. over _)
 
-  -- THE ROWS of an expression; its first operand was read, so a turn for each byte is one more than the bytes left
+  -- THE ROWS of an expression
   pub chain-enough : (row : Row) {operand : Rule (Unit {0})} → Fine operand → (n m from : ℕ) → n ≤ m → length s ≤ from + n → (u : Unit {0}) → Same s f from k (chain (operator row) operand (suc m)) (chain (operator row) operand (suc n))
   unfolding chain perhaps
   chain-enough row {operand} y = enough s f k (λ n u. chain (operator row) operand n) (λ n m from z u. perhaps-by (operator-pays row) (operator-pays row f k) self
       (λ kind. multispace0-pays f (suc k) same-by (λ _. y f (suc k) same-by (λ _. costs kind 0 0 0 0 same-by (λ _. multispace0-pays f k same-by (λ _. z tt))))))
+
+-- A ROW'S START: its first operand has read a byte, so a turn for each byte of the script is one for each that is left, and one more
+module _ (s : List ℕ) (f k more : ℕ) (row : Row) {operand : Rule (Unit {0})} (y : Fine operand) where
+  from-second : (n from : ℕ) → length s ≡ n → Same s f (suc from) k (chain (operator row) operand (more + n)) (chain (operator row) operand n)
+  from-second zero from e = record { same = λ p h l u v w. absurd (omega arith) }
+  from-second (suc n) from e = simp unary-clauses (chain-enough s f k row y n (more + n) (suc from) (omega arith) (omega arith) tt)
+
+  -- every row but wild's comparison, whose one turn is meant
+  pub rung-enough : ((n : ℕ) → most-of row n ≡ n) → Ahead operand → (from : ℕ) → Same s f from k (operand >> (multispace0 >> (size >>= (λ n. chain (operator row) operand (more + n))))) (rung row operand)
+  unfolding rung size
+  rung-enough often x from = moved-by (moves x) (y f k) (λ _. multispace0-pays f k same-by (λ _. record {
+    same = λ p h l u v w. then-same s p h size _ _ (λ b q g e.
+        let i : length s ≡ b = cc in let j : p ≡ q = cc in let t : h ≡ g = cc in
+        rw (← i, ← j, ← t, often (length s)) (from-second (length s) from refl .same p h l u v w));
+  }))
+
+-- so in the ladder, where a row's operand is the rows below it
+pub climb-enough : {deeper : Deeper} → Sound deeper → (row : Row) (rows : List Row) → ((n : ℕ) → most-of row n ≡ n) → (s : List ℕ) (f k more from : ℕ) → Same s f from k (climb rows (unary deeper) >> (multispace0 >> (size >>= (λ n. chain (operator row) (climb rows (unary deeper)) (more + n))))) (climb (row ∷ rows) (unary deeper))
+unfolding climb
+climb-enough x row rows often s f k more from = rung-enough s f k more row (climb-pays rows (unary-pays x)) often (climb-ahead x rows) from
 
 module _ {e : Rule (Unit {0})} (y : Fine e) (z : Ahead e) (s : List ℕ) where
   -- CLAUSES before the braces, and behind them
@@ -209,14 +245,14 @@ module _ {e : Rule (Unit {0})} (y : Fine e) (z : Ahead e) (s : List ℕ) where
 
 -- BLANKS AND COMMENTS: where there was a comment it had a byte
 commented : {s : List ℕ} {f from k : ℕ} {a b : Rule (Unit {0})} → Same s f (suc from) k a b → Same s f from k (comment >>= (λ c. if c then a else done)) (comment >>= (λ c. if c then b else done))
-unfolding _>>=_ if_then_else_
-commented {s} {f} {from} {k} {a} {b} x = record { same = λ p h l u v w. alike (comment .out s p h) (λ c q g e. go p h l u v w c q g e) }
+unfolding if_then_else_
+commented {s} {f} {from} {k} {a} {b} x = record { same = λ p h l u v w. then-same s p h comment _ _ (go p h l u v w) }
   where
-    go : (p : ℕ) (h : Held) → from ≤ p → p ≤ length s → f ≤ h .count → h .count + k ≤ p → (c : Bool) (q : ℕ) (g : Held) → comment .out s p h ≡ got c q g → (if c then a else done) .out s q g ≡ (if c then b else done) .out s q g
+    go : (p : ℕ) (h : Held) → from ≤ p → p ≤ length s → f ≤ h .count → h .count + k ≤ p → (c : Bool) (q : ℕ) (g : Held) → comment .out s p h ≡ got c q g → SameAt s (if c then a else done) (if c then b else done) q g
     go p h l u v w true q g e =
         let t = subst (PaidOut _ s f p k) e (comment-pays f k .fair s p h v w .paid) in
         x .same q g (omega (arith, comment-ahead s p h e)) (omega (arith, t .inside)) (t .floor) (t .few)
-    go p h l u v w false q g e = refl
+    go p h l u v w false q g e = (refl, refl)
 
 pub skipping-enough : (s : List ℕ) (f k n m from : ℕ) → n ≤ m → length s ≤ from + n → (u : Unit {0}) → Same s f from k (skipping (suc m)) (skipping (suc n))
 unfolding skipping
