@@ -1,10 +1,9 @@
 // Assignments (01, rule 4): their signs and values, and the two commands that stand in a script, in SECTIONS and in contents alike.
 ghost use Prim.Native.Nat.{_+_, _≤_};
-ghost use lib.ListN.{length};
 ghost use Rattle.rules.specs.Rule.{_or-else_};
 ghost use Rattle.rules.specs.Expressions.{expression, assert};
 ghost use Rattle.rules.specs.Assignments as rule;
-ghost use Rattle.lex.specs.Contract.{Lexes, went};
+ghost use Rattle.lex.specs.Contract.{Lexes};
 ghost use Rattle.operators.specs.Answers.{operated};
 ghost use Rattle.tape.specs.Contract.{Room, Reads, Run, stepped};
 use lex::Cursor;

@@ -2,7 +2,7 @@
 use mathlib.Core.Path.{_≡_}
 use Prim.Native.Nat.{ℕ}
 use mathlib.Core.List.{List}
-use Rattle.rules.specs.Rule.{Rule, fail, give, holds, _>>=_, _or-else_}
+use Rattle.rules.specs.Rule.{Rule, fail, holds, _>>=_, _or-else_}
 use Rattle.rules.specs.Contents.{keep, matcher, contents-provide, contents-assert, assignment}
 use Rattle.lex.specs.Contract.{Went}
 use Rattle.lex.specs.declared.Cursor.{Cursor}

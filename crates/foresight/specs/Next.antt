@@ -1,8 +1,8 @@
 -- THE TIGHTEST OPERATOR that stands at a place, and the column that tells of what follows it.
 use mathlib.Core.Path.{_≡_}
-use Prim.Native.Nat.{ℕ, suc, _+_, _<_}
+use Prim.Native.Nat.{ℕ, _+_}
 use mathlib.Core.List.{List, _∷_}
-use mathlib.Core.Bool.{Bool, true, false, cond}
+use mathlib.Core.Bool.{Bool, true, cond}
 use lib.ListN.{drop}
 use Rattle.rules.specs.Rule.{Held, got}
 use Rattle.rules.specs.Expressions.{ladder, operator}

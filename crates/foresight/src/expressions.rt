@@ -1,8 +1,7 @@
 // What is told of expressions at a place, from what the table tells of the places behind it.
 ghost use mathlib.Core.Path.{_≡_};
-ghost use Prim.Native.Nat.{_+_, _<_, _≤_};
-ghost use mathlib.Core.Bool.{Bool};
-ghost use lib.ListN.{length, drop};
+ghost use Prim.Native.Nat.{_<_, _≤_};
+ghost use lib.ListN.{length};
 ghost use Rattle.rules.specs.Rule.{_or-else_};
 ghost use Rattle.rules.specs.Expressions as rule;
 ghost use Rattle.rules.specs.Expressions.{levels, ladder as rows};

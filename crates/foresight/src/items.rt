@@ -1,5 +1,4 @@
 // Which tries at a place of a section's contents are in vain, and the marks that say so.
-ghost use mathlib.Core.Path.{_≡_};
 ghost use Prim.Native.Nat.{_+_, _*_, _-_, _≤_, _<_};
 ghost use lib.ListN.{length};
 ghost use Rattle.rules.specs.Expressions.{expression};

@@ -1,7 +1,7 @@
 // Which tries of a section's contents are in vain, told from the end of the script backwards, without records. An item such as `PROVIDE(a =/* )`
 // is tried over a comment that ends far on; what stands there is looked at once for all such items.
 ghost use mathlib.Core.Path.{_≡_};
-ghost use Prim.Native.Nat.{_*_, _≤_};
+ghost use Prim.Native.Nat.{_*_};
 ghost use lib.ListN.{getD};
 ghost use Rattle.rules.specs.Rule.{tag};
 ghost use Rattle.rules.specs.Bytes.{multispace0};

@@ -1,5 +1,4 @@
 // What stands next from a place on, found from the end of the script backwards.
-ghost use mathlib.Core.Path.{_≡_};
 ghost use Prim.Native.Nat.{_+_, _≤_};
 ghost use lib.ListN.{length};
 ghost use Rattle.foresight.specs.Tells.{Tells};

@@ -1,7 +1,6 @@
 // What is told of blanks and comments at a place, from what the table tells of the places behind it.
-ghost use mathlib.Core.Path.{_≡_};
 ghost use Prim.Native.Nat.{_-_, _+_, _≤_, _<_};
-ghost use lib.ListN.{length, drop};
+ghost use lib.ListN.{length};
 ghost use Rattle.rules.specs.Text.{ascii};
 ghost use Rattle.foresight.specs.Tells.{Tells};
 ghost use Rattle.foresight.specs.Table.{told-of, Known};

@@ -2,7 +2,6 @@
 ghost use mathlib.Core.Path.{_≡_};
 ghost use Prim.Native.Nat.{_+_, _*_, _-_, _≤_, _<_};
 ghost use lib.ListN.{length};
-ghost use Rattle.rules.specs.Rule.{Rule};
 ghost use Rattle.foresight.specs.Tells.{Tells};
 ghost use Rattle.foresight.specs.Table.{told-of, column-at, told-by, decoded as decoded-word, Known, Kept, TellsAll, Packed, Joined};
 use crate::Told;

@@ -1,6 +1,6 @@
 // Whether marks are worth their cost: where few comments are opened within a word, few tries go over one in vain.
 ghost use mathlib.Core.Path.{_≡_};
-ghost use Prim.Native.Nat.{_<_, _≤_};
+ghost use Prim.Native.Nat.{_<_};
 ghost use lib.ListN.{length};
 ghost use Rattle.foresight.specs.Worth.{is-inner, opens as opens-at, many as many-in};
 use lex::bytes;

@@ -1,7 +1,5 @@
 // Expressions (01, rule 3): the ladder in both modes. Each rung calls the next tighter one, down to the primary, which calls the top again
 // with one level less to open.
-ghost use mathlib.Core.Path.{_≡_};
-ghost use mathlib.Core.List.{_∷_};
 ghost use Prim.Native.Nat.{_+_, _<_, _≤_};
 ghost use lib.ListN.{length, drop};
 ghost use Rattle.rules.specs.Rule.{_or-else_};

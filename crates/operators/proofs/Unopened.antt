@@ -1,14 +1,13 @@
 -- Where no byte stands that a row's operators begin with, none of them is read: each sign fails at its first byte.
 use mathlib.Core.Path.{_≡_, refl, sym, ap, subst, _∙_}
 use Prim.Native.Nat.{ℕ, _≤_, _<_}
-use Prim.Native.Char.{Char, code}
 use mathlib.Core.List.{List, [], _∷_}
-use mathlib.Core.Bool.{Bool, true, false, cond, false≢true}
+use mathlib.Core.Bool.{true, false, false≢true}
 use borrow.Author.Tests.{ne-eqb}
-use lib.Dec.{T, eqb, eqb→eq}
 use lib.ListN.{length, drop, getD, drop-of-length-le}
 use lib.Seq.{drop-cons}
 use Rattle.rules.specs.Text.{among, begins}
+use Rattle.rules.specs.Rule.{Rule, _>>=_, tag}
 use Rattle.rules.specs.Expressions.{signed, signed-unless, comparison, operator}
 use Rattle.rules.specs.declared.Row.{Row}
 use Rattle.rules.specs.declared.Row.the-variants.{LogicalOr, LogicalAnd, Comparison, Comparisons, BitwiseOr, BitwiseXor, BitwiseAnd, Shift, Additive, Multiplicative}
@@ -30,30 +29,24 @@ unfolding begins
 closed-byte openers b l n = record { to = λ a w x. rw (ne-eqb b a (λ e. false≢true (sym n ∙ ap (among openers) e ∙ x))) }
 
 module _ {s : List ℕ} {c : Cursor} where
-  module _ {openers : List ℕ} (x : Closed openers (drop (c .at) s)) (a : ℕ) (w : List ℕ) (kind : ℕ) (m : among openers a ≡ true) where
-    no-sign : Lexes (signed (a ∷ w) kind) s c lost
-    unfolding signed
-    no-sign = stop _ (tag-lost (a ∷ w) (x .to a w m))
-
-    no-sign-unless : (next : List ℕ) → Lexes (signed-unless (a ∷ w) next kind) s c lost
-    unfolding signed-unless
-    no-sign-unless next = stop _ (tag-lost (a ∷ w) (x .to a w m))
+  no-sign : {openers : List ℕ} → Closed openers (drop (c .at) s) → (a : ℕ) (w : List ℕ) (n : Unit {0} → Rule ℕ) → among openers a ≡ true → Lexes (tag (a ∷ w) >>= n) s c lost
+  no-sign x a w n m = stop n (tag-lost (a ∷ w) (x .to a w m))
 
   compares : Closed (openers Comparison) (drop (c .at) s) → Lexes comparison s c lost
-  unfolding comparison among
+  unfolding comparison signed among
   compares x =
       second (second (no-sign x _ _ _ refl) (no-sign x _ _ _ refl))
       (second (second (no-sign x _ _ _ refl) (no-sign x _ _ _ refl)) (second (no-sign x _ _ _ refl) (no-sign x _ _ _ refl)))
 
   no-operator : (row : Row) → Closed (openers row) (drop (c .at) s) → Lexes (operator row) s c lost
-  unfolding among
+  unfolding signed signed-unless among
   no-operator LogicalOr x = no-sign x _ _ _ refl
   no-operator LogicalAnd x = no-sign x _ _ _ refl
   no-operator Comparison x = compares x
   no-operator Comparisons x = compares x
-  no-operator BitwiseOr x = no-sign-unless x _ _ _ refl _
+  no-operator BitwiseOr x = no-sign x _ _ _ refl
   no-operator BitwiseXor x = no-sign x _ _ _ refl
-  no-operator BitwiseAnd x = no-sign-unless x _ _ _ refl _
+  no-operator BitwiseAnd x = no-sign x _ _ _ refl
   no-operator Shift x = second (no-sign x _ _ _ refl) (no-sign x _ _ _ refl)
   no-operator Additive x = second (no-sign x _ _ _ refl) (no-sign x _ _ _ refl)
   no-operator Multiplicative x = second (no-sign x _ _ _ refl) (second (no-sign x _ _ _ refl) (no-sign x _ _ _ refl))

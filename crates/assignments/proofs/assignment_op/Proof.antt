@@ -1,7 +1,7 @@
 -- A compound sign is tried first, and pays for its left operand.
 use mathlib.Core.Path.{refl, ap}
 use borrow.Author.Needs.{needs}
-use Rattle.rules.specs.Rule.{_>>=_, _>>_, give}
+use Rattle.rules.specs.Rule.{_>>_, give}
 use Rattle.rules.specs.Assignments.{assignment-op as assignment-op-rule, target}
 use Rattle.rules.proofs.Pays.{weaker}
 use Rattle.rules.proofs.Commands.{compound-pays, assignment-op-pays}

@@ -1,11 +1,11 @@
 -- A row over the next rung; below the last the unary.
-use Prim.Native.Nat.{ℕ, _+_}
+use Prim.Native.Nat.{ℕ}
 use mathlib.Core.Path.{refl}
 use native.Mathlib.Omega.{arith}
 use lib.ListN.{drop}
 use Rattle.rules.specs.Expressions as rule
 use Rattle.rules.specs.Expressions.{levels, ladder as rows}
-use Rattle.rules.proofs.Expressions.{levels-sound, climb-pays, rung-pays, unary-pays}
+use Rattle.rules.proofs.Expressions.{levels-sound, climb-pays, unary-pays}
 use Rattle.lex.proofs.Lexes.{sized}
 use Rattle.tape.specs.Contract.{stepped}
 use Rattle.tape.proofs.Runs.{runs, known-read}
