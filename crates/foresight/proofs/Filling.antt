@@ -211,7 +211,7 @@ module _ {mode : Mode} {s marks : List ℕ} (x : Marked mode s marks) (p v : ℕ
   pub marked-first : 2 * p < length marks → InVain (providing mode) s p v → InVain (asserting mode) s p v → InVain keeping s p v → Marked mode s (set marks (2 * p) v)
   marked-first l a b c = record {
     provided = there (providing mode) (λ q. 2 * q) (x .provided) (2 * p) l (λ q e. omega arith) a;
-    told = there (asserting mode) (λ q. 2 * q) (x .told) (2 * p) l (λ q e. omega arith) b;
+    asserted = there (asserting mode) (λ q. 2 * q) (x .asserted) (2 * p) l (λ q e. omega arith) b;
     kept = there keeping (λ q. 2 * q) (x .kept) (2 * p) l (λ q e. omega arith) c;
     set = elsewhere (setting mode) (λ q. 2 * q + 1) (x .set) (2 * p) (λ q e. omega arith);
   }
@@ -219,7 +219,7 @@ module _ {mode : Mode} {s marks : List ℕ} (x : Marked mode s marks) (p v : ℕ
   pub marked-second : 2 * p + 1 < length marks → InVain (setting mode) s p v → Marked mode s (set marks (2 * p + 1) v)
   marked-second l a = record {
     provided = elsewhere (providing mode) (λ q. 2 * q) (x .provided) (2 * p + 1) (λ q e. omega arith);
-    told = elsewhere (asserting mode) (λ q. 2 * q) (x .told) (2 * p + 1) (λ q e. omega arith);
+    asserted = elsewhere (asserting mode) (λ q. 2 * q) (x .asserted) (2 * p + 1) (λ q e. omega arith);
     kept = elsewhere keeping (λ q. 2 * q) (x .kept) (2 * p + 1) (λ q e. omega arith);
     set = there (setting mode) (λ q. 2 * q + 1) (x .set) (2 * p + 1) l (λ q e. omega arith) a;
   }

@@ -46,7 +46,7 @@ module _ {mode : Mode} {s marks : List ℕ} (x : Marked mode s marks) (p left : 
     no-provide = let w = warned _ left e in x .provided p left h (w .0) (w .1)
 
     pub no-assert : contents-assert (expression mode left) .out s p h ≡ fail
-    no-assert = let w = warned _ left e in x .told p left h (w .0) (w .1)
+    no-assert = let w = warned _ left e in x .asserted p left h (w .0) (w .1)
 
     pub no-keep : keep .out s p h ≡ fail
     no-keep = let w = warned _ left e in x .kept p left h (w .0) (w .1)
@@ -58,7 +58,7 @@ module _ {mode : Mode} {s marks : List ℕ} (x : Marked mode s marks) (p left : 
 pub all-silent : (mode : Mode) (s : List ℕ) {marks : List ℕ} → ((i : ℕ) → getD marks i 0 ≡ 0) → Marked mode s marks
 all-silent mode s none = record {
   provided = λ p left h l m. absurd (omega (arith, none (2 * p)));
-  told = λ p left h l m. absurd (omega (arith, none (2 * p)));
+  asserted = λ p left h l m. absurd (omega (arith, none (2 * p)));
   kept = λ p left h l m. absurd (omega (arith, none (2 * p)));
   set = λ p left h l m. absurd (omega (arith, none (2 * p + 1)));
 }

@@ -23,7 +23,7 @@ warns mark left = leb 1 mark && leb mark (left + 1)
 -- two marks a place: of PROVIDE, ASSERT and KEEP in a section's contents, and of an assignment there
 pub record Marked (mode : Mode) (s marks : List ℕ) : Type 0 where
   pub provided : (p : ℕ) → InVain (λ left. contents-provide (expression mode left)) s p (getD marks (2 * p) 0)
-  pub told : (p : ℕ) → InVain (λ left. contents-assert (expression mode left)) s p (getD marks (2 * p) 0)
+  pub asserted : (p : ℕ) → InVain (λ left. contents-assert (expression mode left)) s p (getD marks (2 * p) 0)
   pub kept : (p : ℕ) → InVain (λ left. keep) s p (getD marks (2 * p) 0)
   pub set : (p : ℕ) → InVain (λ left. assignment (expression mode left)) s p (getD marks (2 * p + 1) 0)
 
