@@ -1,8 +1,0 @@
--- One test after the other.
-use borrow.Author.Rules.{rules}
-use Rattle.lex.proofs.Or.{or_first, or_second}
-use Rattle.lex.proofs.bytes.is_letter.Statement.{statement}
-use Rattle.lex.proofs.bytes.is_letter.Tie as tie
-
-pub is_letter_spec : {M : Type 1} → statement M
-is_letter_spec = tie.close (tie.spec (λ c κs. search rules) (λ c. or_first _ c.before.between.ensures c.if1.true) (λ c κs. search rules) (λ c. or_second c.before.before.between.ensures c.before.if1.false c.between2.ensures))
