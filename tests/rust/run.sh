@@ -4,6 +4,6 @@
 set -eu
 here=$(cd "$(dirname "$0")" && pwd)
 target=${CARGO_TARGET_DIR:-$here/target}
-listings=${LISTINGS:-$here/../../target/bin/listings}
+listings=${LISTINGS:-$here/../../crates/listings/out/listings}
 cargo build --offline --release -j1 --quiet --manifest-path "$here/Cargo.toml" --target-dir "$target"
 exec python3 "$here/compare.py" "$target/release/wildtree" "$listings" "${1:-100000}" "${2:-1}"

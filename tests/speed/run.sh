@@ -7,4 +7,4 @@ target=${SPEED_TARGET:-$here/target}
 mkdir -p "$target"
 cargo build --offline --profile speed -j1 --quiet --manifest-path "$here/../rust/Cargo.toml" --target-dir "$target"
 cc -O2 -o "$target/bare" "$here/bare.c"
-exec python3 "$here/measure.py" "${TIMING:-$here/../../target/bin/timing}" "$target/speed/wildtree" "$target/bare" "$@"
+exec python3 "$here/measure.py" "${TIMING:-$here/../../crates/timing/out/timing}" "$target/speed/wildtree" "$target/bare" "$@"
