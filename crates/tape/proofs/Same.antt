@@ -1,9 +1,11 @@
--- What `Runs` and `Reads` say in the words of the tape, as they were stated before `held` and `Keeps` had names: the same, both ways.
-use Rattle.std.proofs.Common.{◌≡◌, refl, sym, ◌∙◌, ℕ, ◌*◌, List, take}
+-- What `Runs` and `Reads` say in the words of the tape, as they were stated before `held` and `Keeps` had names: the same, both ways. And how the two
+-- follow from one another.
+use Rattle.std.proofs.Common.{◌≡◌, refl, sym, subst, ◌∙◌, ℕ, ◌-◌, ◌*◌, List, take, arith}
 use Rattle.rules.specs.Rule.{Rule, Out, got, fail, deep, holds}
 use Rattle.lex.specs.Contract.{Went, went, lost, sunk}
 use Rattle.lex.specs.declared.Cursor.{Cursor}
-use Rattle.tape.specs.Contract.{CameTo, Runs, Run, Reads, held, shown}
+use Rattle.rules.proofs.Pays.{Fine, PaidOut}
+use Rattle.tape.specs.Contract.{CameTo, Room, Runs, Run, Reads, held, shown}
 use Rattle.tape.proofs.Records.{keeps, kept_words}
 
 abbrev pub shown_words : {A : Type 0} → List ℕ → Went A → Out A
@@ -46,3 +48,15 @@ module _ {A : Type 0} {rule : Rule A} {s t : List ℕ} {c : Cursor} {r : Went A}
   -- a reading that pays runs
   pub runs : Reads rule s t c r t' → Run rule s t c r t'
   runs x = record { said = x.said; kept = x.kept }
+
+-- a rule that pays came within the script, with a byte for each record
+pub met : {A : Type 0} {rule : Rule A} {s t : List ℕ} {c : Cursor} {r : Went A} {t' : List ℕ} → Fine rule → Room s t c → Run rule s t c r t' → Reads rule s t c r t'
+unfolding held
+met {A} {rule} {s} {t} {c} {r} {t'} fine room x = record { said = x.said; kept = x.kept; came = go r x.said }
+  where
+    go : (r : Went A) → rule.out s c.at (held c.count t) ≡ shown t' r → CameTo s c r
+    go (went a e) q =
+        let p = subst (PaidOut _ s c.count c.at (c.at - c.count)) q ((fine c.count (c.at - c.count)).fair s c.at (holds c.count t) (omega arith) (omega arith)).paid in
+        record { on = p.on; inside = omega arith; grown = p.floor; paid = omega arith }
+    go lost q = tt
+    go sunk q = tt
