@@ -3,10 +3,11 @@
 
 script_cases.py writes them, before the whole scripts.
 
-The reading below is a second one of the same documents, and no outside oracle: binary operators by their strength in one
-loop, where 000 and the Rattle code go down rung by rung, and tokens by regular expressions. Strengths, levels and records
-are from 01 (rule 3, "Levels", "The tape"), bytes and numbers from 01 rules 1 and 2, the functions' arguments from 000
-(parse_identifier_or_function, parse_function_arg, parse_assert).
+The reading below is a second one of the same rules, and no outside oracle: binary operators by their strength in one
+loop, where wild's linker_script.rs (000) and the Rattle code go down rung by rung, and tokens by regular expressions. Strengths
+are those of wild's rungs and of the manual's table, records those of docs/RECORDS.md; what brackets, functions and prefix operators
+hold is one level deeper, and level 100 is the last. The functions' arguments are from 000 (parse_identifier_or_function,
+parse_function_arg, parse_assert).
 """
 import itertools
 import random

@@ -3,11 +3,13 @@
 
 Run it anywhere: it writes crates/lextest/stdin and crates/lextest/stdout.
 
-The readings below follow the documents' wording, by regular expressions and searches where the Rattle code has loops:
-a second reading of the same documents, and no outside oracle. Blanks, comments, tokens and words are from 01 rule 1,
-numbers from 01 rule 2, pattern names from 01 rule 6, parts from "Answers and limits". Identifiers, segment names and
-the words that are keywords are in 000 only (parse_identifier_or_function, parse_command, parse_phdr,
-parse_section_attribute); the keywords' order in groups is this project's own.
+The readings below are by regular expressions and searches where the Rattle code has loops: a second reading of the same
+rules, and no outside oracle. A blank is a space, a tab, CR or LF; a comment goes from `#` up to its line end or from `/*`
+to behind `*/`, and must end; a token is quoted, or goes up to a blank that is not CR, a bracket, `;` or `,`; a number is
+`0x` or `0X` and 1 to 16 hex digits, or else 0 or decimal digits that do not begin with 0, below 2^64, and K or M may follow,
+big or small; a pattern's name goes up to `)`, a blank or a form feed; a part is empty where it is not all inside. Identifiers, segment names and the words that are keywords are those of
+wild's linker_script.rs (parse_identifier_or_function, parse_command, parse_phdr, parse_section_attribute); the keywords'
+order in groups is this project's own.
 """
 import pathlib
 import re
@@ -268,7 +270,7 @@ add(
     ],
 )
 
-# keywords: each; then shorter, longer and quoted words, words of 000 that are matched as leading bytes, and none
+# keywords: each; then shorter, longer and quoted words, words of wild's module that are matched as leading bytes, and none
 add(b"k", *KEYWORDS)
 add(
     b"k",

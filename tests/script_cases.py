@@ -5,9 +5,9 @@ Run it anywhere: it writes stdin and stdout of those crates. The cases of expr_c
 has them; whole scripts follow, as modes 2 (wild) and 3 (book). The input of listings is chosen by rust/choose.py; here its
 answers are written.
 
-The reading below is a second one of the same documents, and no outside oracle. Commands are from 000 and bear its names, one
-function for each of its functions; records, levels and places are from 01 ("The tape", "Answers and limits", rules 1, 4, 5
-and 6). A rule that fails raises; a try catches that and gives place, level and records back. Too deep is another exception,
+The reading below is a second one of the same rules, and no outside oracle. Commands are from wild's linker_script.rs (000) and
+bear its names, one function for each of its functions; records are those of docs/RECORDS.md, 100 levels may be opened, and a
+refusal stands after the last command that was read whole. A rule that fails raises; a try catches that and gives place, level and records back. Too deep is another exception,
 which no try catches. Expressions are read by expr_cases.py.
 
 The scripts in ldscripts are those of GNU binutils 2.40, with their notices. 000 reads none of them as they are; most are
@@ -601,7 +601,7 @@ def summary(mode, text):
     return words[1:] if words[0] == "refused" else [line.split()[0] for line in records]
 
 
-# ---- the sheet of 01, with what it says of each line
+# ---- a sheet of scripts, with what each line answers in wild mode and in book mode; crates/script/specs/Sheet.antt has most of them
 
 SHEET = [
     ("", "", ""),

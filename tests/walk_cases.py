@@ -4,7 +4,7 @@
 Run it anywhere: it writes crates/walking/stdin and crates/walking/stdout. With a program and a number as arguments it compares that program
 with the reading below over so many scripts by chance instead, and ends with 1 if there is a difference.
 
-The reading follows 01 rule 1, by searches where the Rattle code has loops: a second reading of the same document, and no outside oracle.
+The reading is by searches where the Rattle code has loops: a second reading of the rules for blanks, comments and tokens, and no outside oracle.
 """
 import pathlib
 import random

@@ -1,4 +1,4 @@
-"""From a listing of the proved reader to the line that wildtree prints for the same script, by 01's "The tape".
+"""From a listing of the proved reader to the line that wildtree prints for the same script, by docs/RECORDS.md.
 
 The records are in postfix order, so one stack of texts does it. Each text has a sort, so that a record can stand only where
 its kind may; words that a kind does not use must be 0.

@@ -8,8 +8,8 @@ outcomes that a listing shows: each kind of record under each kind that can hold
 stands at. What a place of wild's module shows counts apart for scripts that are read and for scripts that are refused.
 
 The scripts of scripts.py are gone through from the shortest on, and one is taken if it has an outcome that too few of those before
-it have: three for each, one in book mode and for an expression's kind under another. Chosen by hand: the sheet of 01, what it warns
-of, the rows of docs/DIFFERENCES.md, levels 100 and 101, and long ones.
+it have: three for each, one in book mode and for an expression's kind under another. Chosen by hand: the sheet of ../script_cases.py,
+what is easily read otherwise, the rows of docs/DIFFERENCES.md, levels 100 and 101, and long ones.
 
 The answers are written by the reading in ../script_cases.py; in wild mode wild's own module must make the same tree of each, and
 LISTINGS must print them all. The same SEED and NUMBER give the same files.
@@ -127,7 +127,7 @@ def wanted(outcome, mode):
 
 # ---- chosen by hand
 
-# what 01 warns of, and the rows of docs/DIFFERENCES.md
+# what is easily read otherwise, and the rows of docs/DIFFERENCES.md
 NOTED = [
     f"SECTIONS {{ a : {{ PROVIDE(x = {101 * '('}1) }} }}", f"SECTIONS {{ a : {{ ASSERT({101 * '-'}1, m) }} }}",
     "SECTIONS { a : { PROVIDE(x = 1 + 2 y) } }", "SECTIONS { a : { KEEP(*(.a .b) c) } }", "SECTIONS { a 1 2 (COPY) 3 + 4 : {} }",

@@ -1,4 +1,4 @@
-//! Stand-in for the part of `object` that is used: the PT_ numbers, from rule 5 of 01.
+//! Stand-in for the part of `object` that is used: the PT_ numbers, of the ELF specification and its GNU extensions.
 
 pub trait Wrap {
     type Inner;

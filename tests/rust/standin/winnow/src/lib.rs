@@ -1,4 +1,4 @@
-//! Stand-in for the part of `winnow` that linker_script.rs uses, written from 01's rules 1 and 2 and "Reading rules".
+//! Stand-in for the part of `winnow` that linker_script.rs uses; each does what crates/rules/specs/Rule.antt says of it.
 //!
 //! There is one kind of error, and every error backtracks: `opt`, `alt`, `not` and the end mark of `repeat_till` put the
 //! cursor back when a parser fails. A parser that fails on its own may leave the cursor anywhere.
